@@ -1,0 +1,3 @@
+pub mod Partials
+pub mod WeightWords
+pub mod CardWords
