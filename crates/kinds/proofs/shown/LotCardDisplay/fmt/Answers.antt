@@ -2,11 +2,10 @@
 use Rattle.kinds.proofs.shown.LotCardDisplay.fmt.Needs as need
 
 pub returns-in-Quarantined : need.returns-in-Quarantined
-returns-in-Quarantined g c = rw (c .in-Quarantined .is) (rw (c .number-day .ensures) at (c .write .ensures .shows))
+returns-in-Quarantined g c = rw (c .in-Quarantined .is) (c .write .ensures .shows)
 
 pub returns-in-Released : need.returns-in-Released
-returns-in-Released g c = rw (c .in-Released .is) (rw (c .number-day-in-Released .ensures) at (c .write-in-Released .ensures .shows))
+returns-in-Released g c = rw (c .in-Released .is) (c .write-in-Released .ensures .shows)
 
 pub returns-in-Blocked : need.returns-in-Blocked
-returns-in-Blocked g c =
-    rw (c .in-Blocked .is) (rw (c .code-why .ensures, c .number-day-in-Blocked .ensures) at (c .write-in-Blocked .ensures .shows))
+returns-in-Blocked g c = rw (c .in-Blocked .is) (c .write-in-Blocked .ensures .shows)

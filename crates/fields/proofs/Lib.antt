@@ -1,0 +1,4 @@
+pub mod Cutting
+pub mod Joining
+pub mod Reading
+pub mod Signs

@@ -1,0 +1,2 @@
+-- Facts of plain lists that the proofs share.
+pub mod Changes

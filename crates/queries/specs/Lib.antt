@@ -1,0 +1,4 @@
+pub mod Faults
+pub mod Queries
+pub mod Replies
+pub mod Reports
