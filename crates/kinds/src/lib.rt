@@ -40,5 +40,6 @@ pub use shown::LotCardDisplay;
 pub use shown::ReasonDisplay;
 pub use word::Word;
 pub use word::WordDebug;
+pub use word::WordDefault;
 pub use word::WordEq;
 pub use word::WordPartialEq;

@@ -37,7 +37,7 @@ pub impl Fault for QueryFault as QueryFaultFault {
                 layer: Layer::Script,
                 place: 0,
             },
-            QueryFault::Kind(fault) => fault.told(),
+            QueryFault::Kind(inner) => inner.told(),
         }
     }
 }

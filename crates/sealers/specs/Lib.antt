@@ -1,0 +1,4 @@
+pub mod Books
+pub mod Faults
+pub mod Keys
+pub mod Sealing

@@ -1,0 +1,5 @@
+pub mod Entries
+pub mod Parties
+pub mod Sets
+pub mod Stamps
+pub mod Texts
