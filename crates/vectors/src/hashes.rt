@@ -72,7 +72,7 @@ const HASHES: [u64; 64] = [
 ];
 
 // How many of the published hashes are what `siphash` gives.
-pub fn hashes_that_agree() -> usize
+pub(crate) fn hashes_that_agree() -> usize
     ensures { λ r. ⌜ r ≤ 64 ⌝ }
 {
     let key = Key {

@@ -1,0 +1,4 @@
+pub mod Appends
+pub mod Codec
+pub mod Empty
+pub mod Searches
