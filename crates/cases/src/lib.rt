@@ -1,4 +1,6 @@
 // The worked cases of the rules for values and words.
+#![tactic(auto)]
+
 ghost use Rattle.std.specs.Prelude.{◌≡◌, length};
 ghost use Rattle.cases.specs.Cases.{worked_cases, WorkedCasesHold};
 

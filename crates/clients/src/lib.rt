@@ -1,4 +1,6 @@
 // The step of a client: reads, writes and write-backs in rounds, through changes of configuration.
+#![tactic(auto)]
+
 mod fault;
 mod line;
 mod step;

@@ -1,4 +1,6 @@
 // The lines of a text, the fields of a line, and the numbers in fields.
+#![tactic(auto)]
+
 ghost use Rattle.std.specs.Prelude.{◌≡◌, [], ◌∷◌, ◌++◌, Some};
 ghost use Rattle.std.specs.Option.{option_map};
 ghost use Rattle.fields.specs.Parts.{lines, fields, finished, taken, MakesUp};

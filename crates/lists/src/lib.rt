@@ -1,5 +1,7 @@
 // An append-only list over a slice that the caller lends, for elements of any type.
 // An item is put behind the list or changed in its place, and is handed back where that cannot be.
+#![tactic(auto)]
+
 
 ghost use Rattle.std.specs.Prelude.{◌≡◌, ◌+◌, [], length};
 ghost use Rattle.std.specs.List.{slice_get};

@@ -1,4 +1,6 @@
 // The lot card, a record kind: what may be done with a lot, and from or until which day.
+#![tactic(auto)]
+
 mod lot_card;
 mod shown;
 

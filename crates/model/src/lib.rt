@@ -1,5 +1,7 @@
 // The register as a whole, by its meaning: the state of a hall as values, the nine calls as definitions over it,
 // and what holds of every run of them. Each function here carries one theorem in its contract.
+#![tactic(auto)]
+
 ghost use Rattle.model.specs.Promise.{OneOrder, LogInTime};
 
 use kinds::Kind;

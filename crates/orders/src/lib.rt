@@ -1,5 +1,7 @@
 // Linearization: operations whose timestamps respect real time can be put in one order.
 // In that order no operation stands before one that was over when it began, and every read gives what was written last before it.
+#![tactic(auto)]
+
 ghost use Rattle.orders.specs.Order.{StampedOperationsHaveAnOrder};
 
 // Carries the theorem, which is about every history of operations; the number that it returns says nothing.

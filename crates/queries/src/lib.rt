@@ -1,4 +1,6 @@
 // Questions about values and their words, one to a line, and the reply to each.
+#![tactic(auto)]
+
 mod fault;
 mod query;
 mod reply;

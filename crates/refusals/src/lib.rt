@@ -1,4 +1,6 @@
 // A refusal: what every call of the register answers in place of doing something that the rules do not accept.
+#![tactic(auto)]
+
 ghost use Rattle.std.specs.Prelude.{◌≡◌, Some};
 ghost use Rattle.refusals.specs.Places.{moved};
 ghost use Rattle.refusals.specs.Shown.{layer_name, refusal_text};

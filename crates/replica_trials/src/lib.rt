@@ -1,4 +1,6 @@
 // What parties pass to each other, what replicas keep, seals and hashes, by example.
+#![tactic(auto)]
+
 #[cfg(test)]
 mod hashing;
 #[cfg(test)]

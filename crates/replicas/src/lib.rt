@@ -1,3 +1,5 @@
+#![tactic(auto)]
+
 mod decision;
 mod fault;
 mod step;

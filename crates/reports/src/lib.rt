@@ -1,4 +1,6 @@
 // What is printed for a whole text of questions.
+#![tactic(auto)]
+
 ghost use Rattle.std.specs.Prelude.{◌≡◌, IfOk, string_bytes};
 ghost use Rattle.queries.specs.Faults.{query_refusal};
 ghost use Rattle.refusals.specs.Places.{moved};

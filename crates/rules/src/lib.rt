@@ -1,4 +1,6 @@
 // The rules of a hall that both steps share: who is in it, what is genuine, what is posted, what is objected to.
+#![tactic(auto)]
+
 mod objection;
 mod posts;
 mod rules;

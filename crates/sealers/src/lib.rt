@@ -1,4 +1,6 @@
 // Sealers: who gives seals for texts, and says which are genuine.
+#![tactic(auto)]
+
 mod book;
 mod fault;
 mod keyed;

@@ -1,4 +1,6 @@
 // SipHash-2-4 of a message under a key.
+#![tactic(auto)]
+
 ghost use Rattle.std.specs.Prelude.{◌≡◌, ◌+◌, ◌*◌, ◌%◌, ◌^◌, ◌<◌, length};
 ghost use Rattle.siphash.specs.Sip.{started, sip_round, absorbed, finished, sip_hash};
 ghost use Rattle.siphash.specs.Words.{little, behind};

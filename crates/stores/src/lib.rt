@@ -1,4 +1,6 @@
 // Where a replica keeps its card: the store by its meaning, and a cabinet of cards in memory.
+#![tactic(auto)]
+
 mod cabinet;
 mod card;
 mod fault;

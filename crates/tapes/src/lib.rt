@@ -1,4 +1,6 @@
 // The tape: a store over bytes, which writes one record for each save.
+#![tactic(auto)]
+
 mod record;
 mod tape;
 

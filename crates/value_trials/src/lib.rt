@@ -1,4 +1,6 @@
 // Values and their words, the list, the reading of text, and questions, by example.
+#![tactic(auto)]
+
 #[cfg(test)]
 mod asking;
 #[cfg(test)]

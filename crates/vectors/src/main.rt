@@ -1,4 +1,6 @@
 // Compares what the register computes with published and worked values, one by one, and prints how many agree.
+#![tactic(auto)]
+
 mod hashes;
 mod layouts;
 

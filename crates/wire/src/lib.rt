@@ -1,4 +1,6 @@
 // What parties pass to each other: who they are, sets of replicas, stamps, pairs, configurations, entries, sealed texts.
+#![tactic(auto)]
+
 mod entry;
 mod pair;
 mod party;

@@ -1,4 +1,6 @@
 // Reads questions about values and words from standard input, a line each, and prints the answers.
+#![tactic(auto)]
+
 use std::io;
 use std::io::Read;
 
