@@ -6,5 +6,5 @@ use Rattle.siphash.proofs.Bytes.{little_four}
 pub returns-in-Some : goal.returns-in-Some
 returns-in-Some c =
     let h = c.in-Some.ensures.cases in
-    let e = little_four c.args.bytes.now c.in-Some.four.now c.in-Some.more.now _ h.0 h.1 c.from-le-bytes.ensures in
+    let e = little_four c.args.bytes.now c.in-Some.four.now c.in-Some.more.now _ h.0 h.1 c.from_le_bytes.ensures in
     record { value = omega (arith, c.few.ensures.value, c.few.ensures.small); small = omega (arith, c.few.ensures.small) }

@@ -27,11 +27,11 @@ returns c =
     let bs = c.args.message.now in
     let rest = c.loop-block.rest.now in
     let state = c.loop-block.state in
-    let few : length rest < 8 = c.in-default.ensures.cases in
+    let few : length rest < 8 = c.in_default.ensures.cases in
     c.finish.ensures
     ∙ ap finished (
     c.absorb.ensures
-    ∙ ap (absorbed state) c.last-word.ensures
+    ∙ ap (absorbed state) c.last_word.ensures
     ∙ sym (absorbed_last bs rest state c.loop-block.invariant.1 few)
     ∙ c.loop-block.invariant.0
     ∙ ap (λ s. absorbed_all s (message_words bs)) c.start-state.ensures

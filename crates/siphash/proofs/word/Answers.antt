@@ -4,4 +4,4 @@ use Rattle.siphash.proofs.Bytes.{little_8}
 use Rattle.siphash.proofs.word.Goals as goal
 
 pub returns : goal.returns
-returns c = omega (arith, little_8 c.args.block.now (omega arith), c.from-le-bytes.ensures)
+returns c = omega (arith, little_8 c.args.block.now (omega arith), c.from_le_bytes.ensures)

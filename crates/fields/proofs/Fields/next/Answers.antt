@@ -5,4 +5,4 @@ use Rattle.fields.proofs.Cutting.{field_taken}
 use Rattle.fields.proofs.Fields.next.Goals as goal
 
 pub returns : goal.returns
-returns c = field_taken _ _ _ c.cut.ensures ∙ ap (λ o. taken Some (fields_in o)) (sym c.in-ok-self.was)
+returns c = field_taken _ _ _ c.cut.ensures ∙ ap (λ o. taken Some (fields_in o)) (sym c.in_ok-self.was)

@@ -6,4 +6,4 @@ pub returns-then-is-empty : goal.returns-then-is-empty
 returns-then-is-empty c = no_line c.args.self.now.rest.now (true-eqb _ 0 c.if-is-empty.ensures)
 
 pub returns : goal.returns
-returns c = line_taken _ _ _ _ _ (false-eqb _ 0 c.if-is-empty.ensures) c.cut.ensures c.unwrap-or-self.ensures refl
+returns c = line_taken _ _ _ _ _ (false-eqb _ 0 c.if-is_empty.ensures) c.cut.ensures c.unwrap_or-self.ensures refl

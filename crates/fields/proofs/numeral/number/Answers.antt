@@ -9,5 +9,5 @@ returns-then-is-empty c =
 
 pub returns : goal.returns
 returns c =
-    let value = some_digits c.args.field.now _ (false-eqb _ 0 c.if-is-empty.ensures) c.read.ensures in
+    let value = some_digits c.args.field.now _ (false-eqb _ 0 c.if-is_empty.ensures) c.read.ensures in
     record { value = value; back = number_back _ _ value }

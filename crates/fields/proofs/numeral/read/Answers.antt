@@ -8,7 +8,7 @@ returns-in-err-value c =
 
 pub loop-byte-preserved : goal.loop-byte-preserved
 loop-byte-preserved c =
-    (goes_on c.args.digits.now c.loop-byte.value c.loop-byte.byte-index c.loop-byte.invariant.0 _ c.loop-byte-test.true c.in-ok-value.ensures, search rules)
+    (goes_on c.args.digits.now c.loop-byte.value c.loop-byte.byte-index c.loop-byte.invariant.0 _ c.loop-byte-test.true c.in_ok-value.ensures, search rules)
 
 pub returns : goal.returns
 returns c = ends c.args.digits.now c.loop-byte.value _ c.loop-byte.invariant.0 c.loop-byte-test.false c.loop-byte.invariant.1

@@ -7,6 +7,6 @@ use Rattle.wire.proofs.text.Text.bytes.Goals as goal
 pub returns : goal.returns
 returns c =
     let t = c.args.self in
-    let value = twelve t.tag t.party t.number t.body _ _ (le_4 t.number ∙ sym c.to-le-bytes-number.ensures) (le_8 t.body ∙ sym c.to-le-bytes-body.ensures) in
+    let value = twelve t.tag t.party t.number t.body _ _ (le_4 t.number ∙ sym c.to_le_bytes-number.ensures) (le_8 t.body ∙ sym c.to_le_bytes-body.ensures) in
     let fits : Fitting t = search rules in
     record { value = value; exact = λ u fit e. text_same u t fit fits (e ∙ value) }
