@@ -1,5 +1,5 @@
 -- A lot card's word gives back its tag, its reason and its day. Assumes nothing.
-use Rattle.std.specs.Prelude.{◌≡◌, ℕ, ◌+◌, ◌*◌, ◌/◌, ◌%◌, ◌<◌, Bool, true, false, cond, Some, None, Option, ◌==◌, ◌≢◌, refl}
+use Rattle.std.specs.Prelude.{◌≡◌, ℕ, ◌+◌, ◌*◌, ◌/◌, ◌%◌, ◌<◌, cond, Some, None, Option, ◌==◌, ◌≢◌, refl}
 use Rattle.std.proofs.Common.{ap, sym, subst, ◌∙◌, arith}
 use Rattle.std.specs.Option.{option_map}
 use Rattle.std.proofs.lemmas.Bool.{cond_both, ltb-true, eqb-true}
@@ -8,7 +8,7 @@ use Rattle.lots.specs.declared.lot_card.Day.{Day}
 use Rattle.lots.specs.declared.lot_card.Reason.{Reason}
 use Rattle.lots.specs.declared.lot_card.LotCard.{LotCard}
 use Rattle.lots.specs.declared.lot_card.LotCard.TheVariants.{Quarantined, Released, Blocked}
-use Rattle.lots.specs.LotCards.{day_of, reason_of, blocked, blocked_for, card, card_tag, card_reason, card_day, card_word, card_value}
+use Rattle.lots.specs.LotCards.{day_of, reason_of, blocked, card, card_tag, card_reason, card_day, card_word, card_value}
 use Rattle.kinds.specs.Partials.{only_if_true, only_if_some}
 
 -- a day and a reason are those of their numbers

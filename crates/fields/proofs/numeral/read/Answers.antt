@@ -2,9 +2,9 @@ use Rattle.std.proofs.Common.{◌∙◌, rules}
 use Rattle.fields.proofs.Reading.{goes_on, stops, ends}
 use Rattle.fields.proofs.numeral.read.Goals as goal
 
-pub returns-in-err-value : goal.returns-in-err-value
-returns-in-err-value c =
-    c.from-residual.ensures ∙ stops _ c.loop-byte.value _ c.loop-byte.invariant.0 c.loop-byte-test.true c.in-err-value.ensures
+pub returns-in_err-value : goal.returns-in_err-value
+returns-in_err-value c =
+    c.from_residual.ensures ∙ stops _ c.loop-byte.value _ c.loop-byte.invariant.0 c.loop-byte-test.true c.in_err-value.ensures
 
 pub loop-byte-preserved : goal.loop-byte-preserved
 loop-byte-preserved c =

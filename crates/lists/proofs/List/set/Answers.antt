@@ -2,8 +2,8 @@ use Rattle.std.proofs.Common.{length-take, rules}
 use Rattle.lists.proofs.Changes.{set_within}
 use Rattle.lists.proofs.List.set.Goals as goal
 
-pub offset-bounds-self-place : goal.offset-bounds-self-place
-offset-bounds-self-place g c = search (rules, length-take)
+pub offset_bounds-self-place : goal.offset_bounds-self-place
+offset_bounds-self-place g c = search (rules, length-take)
 
 pub bounds-self-place : goal.bounds-self-place
 bounds-self-place g c = search (rules, length-take)
