@@ -1,7 +1,7 @@
 -- The rows and counts of a text, line by line: what is so far, one line more, and the end. Assumes nothing.
-use Rattle.std.proofs.Common.{◌≡◌, ℕ, ◌+◌, ◌<◌, ◌≤◌, Bool, true, false, cond, eqb, List, [], ◌∷◌, ◌++◌, length, is_ok, Some, None, sym, refl, ap, ◌∙◌, subst, append_assoc, append-nil, arith}
+use Rattle.std.proofs.Common.{◌≡◌, ℕ, ◌+◌, ◌≤◌, Bool, true, false, cond, eqb, List, [], ◌∷◌, ◌++◌, length, is_ok, Some, sym, refl, ap, ◌∙◌, subst, append_assoc, append-nil, arith}
 use Rattle.std.proofs.lemmas.Bool.{cond_both}
-use Rattle.fields.specs.Parts.{onto, parts, lines, Taken, taken}
+use Rattle.fields.specs.Parts.{onto, lines, taken}
 use Rattle.reports.specs.Reports.{tried, row, rows, replies, refused, totals, printed}
 
 -- out is the rows of the lines before left, of which values were answered and refusals refused

@@ -1,5 +1,5 @@
 -- What is printed for a text of questions: a row for each line, then the counts.
-use Rattle.std.specs.Prelude.{ℕ, suc, ◌+◌, Bool, cond, not, List, [], ◌∷◌, ◌++◌, is_ok, Some, None, Ok, Err, codes, decimal, Option, Result}
+use Rattle.std.specs.Prelude.{ℕ, ◌+◌, cond, List, [], ◌∷◌, ◌++◌, is_ok, Some, None, Ok, Err, codes, decimal, Option, Result}
 use Rattle.fields.specs.Parts.{lines, fields}
 use Rattle.refusals.specs.Places.{moved}
 use Rattle.refusals.specs.Shown.{refusal_text}

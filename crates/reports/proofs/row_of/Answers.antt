@@ -2,4 +2,4 @@
 use Rattle.reports.proofs.row_of.Goals as goal
 
 pub returns-in-Err : goal.returns-in-Err
-returns-in-Err c = rw c.in-Err.is (rw c.refusal-of-refusal.ensures at c.format-in-Err.ensures.ok)
+returns-in-Err c = rw c.in-Err.is (rw c.refusal_of-refusal.ensures at c.format-in-Err.ensures.ok)
