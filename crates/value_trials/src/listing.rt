@@ -28,7 +28,7 @@ fn bytes(rt: HostRuntime) {
     assert_eq!(rt; list.append(2), Ok(1));
     assert_eq!(rt; list.set(0, 5), Ok(()));
     assert_eq!(rt; list.set(2, 6), Err(6u8), "a place that is not used");
-    assert_eq!(rt; list.used(), &[5, 2]);
+    assert_eq!(rt; list.used(), [5, 2].as_slice());
     assert_eq!(rt; list.capacity(), 3);
     assert_eq!(rt; room, [5, 2, 9], "what lies behind stays");
 }
