@@ -1,7 +1,7 @@
 -- The worked cases of the rules for values and words, as one list, and what it is for a case to hold.
 use Rattle.std.specs.Prelude.{◌≡◌, ℕ, Bool, true, false, List, [], ◌∷◌, ℤ, pos, Some, None, Option}
 use Rattle.std.specs.Option.{option_map}
-use Rattle.std.specs.List.{AllByRecursion as All}
+use Rattle.std.specs.List.{AllByRecursion}
 use Rattle.kinds.specs.declared.word.Word.{Word}
 use Rattle.kinds.specs.BinWeights.{weight, weight_word, weight_value}
 use Rattle.lots.specs.LotCards.{day_of, released_until, blocked_for, card_word, card_value, drawable}
@@ -44,4 +44,4 @@ worked_cases =
     ∷ []
 
 abbrev pub WorkedCasesHold : Type 0
-WorkedCasesHold = All Holds worked_cases
+WorkedCasesHold = AllByRecursion Holds worked_cases

@@ -1,6 +1,6 @@
 -- Lines and fields have no separator in them, and with one behind each they make up their text. Assumes nothing.
 use Rattle.std.proofs.Common.{◌≡◌, ℕ, zero, suc, false, eqb, List, [], ◌∷◌, ◌++◌, sym, refl, ap, ◌∙◌, ⊎_elim, arith}
-use Rattle.std.specs.List.{AllByRecursion as All}
+use Rattle.std.specs.List.{AllByRecursion}
 use Rattle.std.specs.Str.Iter.{LacksByte}
 use Rattle.std.proofs.lemmas.Bool.{true≢false, eqb-true, eqb-false, cond-true, cond-false, cond_both, cases_Bool}
 use Rattle.fields.specs.Parts.{onto, parts, lines, fields, ended, finished, MakesUp}
@@ -15,7 +15,7 @@ module _ (sep : ℕ) where
   lacks_more c cs other h zero lt = other
   lacks_more c cs other h (suc k) lt = h k (omega arith)
 
-  lacks_onto : (c : ℕ) (ps : List (List ℕ)) → (c ≡ sep → ⊥) → All (LacksByte sep) ps → All (LacksByte sep) (onto c ps)
+  lacks_onto : (c : ℕ) (ps : List (List ℕ)) → (c ≡ sep → ⊥) → AllByRecursion (LacksByte sep) ps → AllByRecursion (LacksByte sep) (onto c ps)
   lacks_onto c [] other h = (lacks_more c [] other lacks_none, tt)
   lacks_onto c (p ∷ ps) other h = (lacks_more c p other h.0, h.1)
 
@@ -24,10 +24,10 @@ module _ (sep : ℕ) where
   ended_onto c (p ∷ ps) some = refl
 
   module _ (end : List (List ℕ)) where
-    all_lack : All (LacksByte sep) end → (bs : List ℕ) → All (LacksByte sep) (parts sep end bs)
+    all_lack : AllByRecursion (LacksByte sep) end → (bs : List ℕ) → AllByRecursion (LacksByte sep) (parts sep end bs)
     all_lack h [] = h
     all_lack h (c ∷ cs) =
-        cond_both (eqb c sep) _ _ (All (LacksByte sep)) (λ _. (lacks_none, all_lack h cs)) (λ e. lacks_onto c _ (eqb-false c sep e) (all_lack h cs))
+        cond_both (eqb c sep) _ _ (AllByRecursion (LacksByte sep)) (λ _. (lacks_none, all_lack h cs)) (λ e. lacks_onto c _ (eqb-false c sep e) (all_lack h cs))
 
     ended_more : (c : ℕ) (cs rest : List ℕ) → nothing (parts sep end cs) ≡ false → ended sep (parts sep end cs) ≡ rest → ended sep (parts sep end (c ∷ cs)) ≡ c ∷ rest
     ended_more c cs rest some h =

@@ -1,6 +1,6 @@
 -- The lines of a text and the fields of a line, and what it is to take the first of them.
 use Rattle.std.specs.Prelude.{◌≡◌, ℕ, cond, List, [], ◌∷◌, ◌++◌, Some, None, Option, ◌==◌}
-use Rattle.std.specs.List.{AllByRecursion as All}
+use Rattle.std.specs.List.{AllByRecursion}
 use Rattle.std.specs.Str.Iter.{LacksByte}
 
 -- the byte c in front of the first part
@@ -28,7 +28,7 @@ ended sep (p ∷ ps) = p ++ (sep ∷ ended sep ps)
 
 -- no part has a byte sep in it, and with one behind each part they make up bs
 abbrev pub MakesUp : ℕ → List (List ℕ) → List ℕ → Type 0
-MakesUp sep ps bs = All (LacksByte sep) ps × (ended sep ps ≡ bs)
+MakesUp sep ps bs = AllByRecursion (LacksByte sep) ps × (ended sep ps ≡ bs)
 
 -- a text whose last line is ended by a line feed too
 abbrev pub finished : List ℕ → List ℕ
