@@ -131,11 +131,3 @@ pub fn siphash(key: Key, message: &[u8]) -> u64
     }
     finish(absorb(state, last_word(message)))
 }
-
-// The same for C: the key in two halves, the message as its address and its length.
-#[unsafe(no_mangle)]
-pub extern "C" fn dagbirin_siphash(low: u64, high: u64, message: &[u8]) -> u64
-    ensures { result ≡ sip_hash low high message.now }
-{
-    siphash(Key { low, high }, message)
-}
