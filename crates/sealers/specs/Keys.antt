@@ -1,5 +1,5 @@
 -- The keyed sealer: whose key is where, what it makes genuine, and how many seals are left.
-use Rattle.std.specs.Prelude.{◌≡◌, ℕ, ◌-◌, ◌≤◌, Bool, false, cond, ◌&&◌, List, length, Some, None, Ok, Err, vec_items, vec_len, Option, Result, nat_eq, nat_le}
+use Rattle.std.specs.Prelude.{◌≡◌, ℕ, ◌-◌, ◌≤◌, Bool, false, cond, ◌&&◌, List, length, Some, None, Ok, Err, vec_items, Option, Result, nat_eq, nat_le}
 use Rattle.std.specs.List.{slice_get, AllByRecursion as All}
 use Rattle.std.specs.Option.{option_map, unwrap_or}
 use Rattle.siphash.specs.Sip.{sip_hash}
