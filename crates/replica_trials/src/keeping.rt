@@ -92,7 +92,7 @@ fn a_tape_keeps_cards_until_it_is_full(rt: HostRuntime) -> Result<(), Fail> {
     assert_eq!(rt; tape.load(first), Some(card(3, false)), "as it was");
     assert_eq!(rt;
         &bytes[215..220],
-        &[0, 170, 170, 170, 170],
+        [0, 170, 170, 170, 170].as_slice(),
         "the bytes behind the last record"
     );
     let refusal = Refusal {
