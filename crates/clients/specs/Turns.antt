@@ -1,6 +1,6 @@
 -- What a client makes of an entry: the line that comes of it with an entry to post or none, or an objection.
 -- Each rule is one definition; its checks stand in the order in which they are made.
-use Rattle.std.specs.Prelude.{ℕ, ◌+◌, max, Bool, true, false, cond, not, ◌&&◌, Some, None, Ok, Err, Option, Result, ◌==◌, count_ones, nat_le, nat_lt}
+use Rattle.std.specs.Prelude.{ℕ, ◌+◌, max, Bool, cond, not, ◌&&◌, Some, None, Ok, Err, Option, Result, ◌==◌, count_ones, nat_le, nat_lt}
 use Rattle.kinds.specs.declared.word.Word.{Word}
 use Rattle.wire.specs.declared.entry.Entry.{Entry}
 use Rattle.wire.specs.declared.entry.EntryKind.{EntryKind}

@@ -1,5 +1,4 @@
 -- As which refusal each fault of a hall stands: number, layer and place.
-use Rattle.std.specs.Prelude.{ℕ}
 use Rattle.refusals.specs.declared.Refusal.{Refusal}
 use Rattle.refusals.specs.declared.Layer.TheVariants.{Hall, Client as The-client}
 use Rattle.refusals.specs.Places.{moved}

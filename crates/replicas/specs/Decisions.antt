@@ -1,6 +1,6 @@
 -- What a replica decides on an entry: a card to save or none, an entry to post or none, or an objection.
 -- Each rule is one definition; its checks stand in the order in which they are made.
-use Rattle.std.specs.Prelude.{ℕ, ◌+◌, Bool, true, false, cond, not, ◌&&◌, Some, None, Ok, Err, Option, Result, ◌==◌, count_ones, nat_le, nat_lt}
+use Rattle.std.specs.Prelude.{ℕ, ◌+◌, Bool, false, cond, not, ◌&&◌, Some, None, Ok, Err, Option, Result, ◌==◌, count_ones, nat_le, nat_lt}
 use Rattle.wire.specs.declared.entry.Entry.{Entry}
 use Rattle.wire.specs.declared.entry.EntryKind.{EntryKind}
 use Rattle.wire.specs.declared.entry.EntryKind.TheVariants.{Read, Write, Transfer, Pair as A-pair, Ack, Stock, Config, Behind}

@@ -11,7 +11,6 @@ use Rattle.stores.specs.Saved.{Saved, saved}
 use Rattle.rules.specs.declared.objection.Objection.TheVariants.{NotMember}
 use Rattle.rules.specs.declared.rules.Rules.{Rules}
 use Rattle.rules.specs.Genuine.{genuine_entry}
-use Rattle.replicas.specs.declared.decision.Decision.{Decision}
 use Rattle.replicas.specs.declared.fault.ReplicaFault.{ReplicaFault}
 use Rattle.replicas.specs.declared.fault.ReplicaFault.TheVariants.{Objects, Store}
 use Rattle.replicas.specs.Decisions.{Verdict, decided}

@@ -1,5 +1,5 @@
 -- A party's row of keys is spent: one seal fewer for that party, and the same seals genuine. Assumes nothing.
-use Rattle.std.proofs.Common.{◌≡◌, ℕ, zero, suc, ◌-◌, ◌<◌, ◌≤◌, Bool, true, false, cond, ◌&&◌, eqb, leb, ◌⊎◌, List, [], ◌∷◌, length, get_or, set, Some, None, Ok, vec_items, vec_len, Option, unwrap_or, sym, refl, ap, ◌∙◌, subst, inl, inr, ⊎_elim, arith}
+use Rattle.std.proofs.Common.{◌≡◌, ℕ, zero, suc, ◌-◌, ◌<◌, true, false, eqb, List, [], ◌∷◌, length, get_or, set, Some, None, Ok, vec_items, vec_len, Option, unwrap_or, sym, refl, ap, ◌∙◌, subst, ⊎_elim, arith}
 use Rattle.std.specs.List.{slice_get}
 use Rattle.std.specs.Option.{option_map}
 use Rattle.std.proofs.lemmas.Option.{slice_get_past, slice_get_read}
@@ -10,7 +10,7 @@ use Rattle.wire.specs.declared.text.Text.{Text}
 use Rattle.sealers.specs.declared.keyed.Keyed.{Keyed}
 use Rattle.sealers.specs.declared.keyed.KeyRow.{KeyRow}
 use Rattle.sealers.specs.Keys.{key_place, row_at, key_row, key_seal, spent_row, keyed_seals, keyed_genuine, keyed_given}
-use Rattle.sealers.specs.Sealing.{Sealed, spent, sealed}
+use Rattle.sealers.specs.Sealing.{spent, sealed}
 
 nth_set_same : (rows : List KeyRow) (i : ℕ) (row new : KeyRow) → slice_get rows i ≡ Some row → slice_get (set rows i new) i ≡ Some new
 nth_set_same [] i row new e = absurd (let z : ◌≡◌ {A = ℕ} 0 1 = cc in omega arith)

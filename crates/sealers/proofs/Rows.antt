@@ -1,13 +1,13 @@
 -- A row of the book is written: one seal fewer for that party, the new seal genuine, and the others still. Assumes nothing.
-use Rattle.std.proofs.Common.{◌≡◌, ℕ, ◌+◌, ◌-◌, ◌*◌, ◌<◌, ◌≤◌, min, Bool, true, false, cond, ◌&&◌, eqb, ltb, leb, ◌⊎◌, List, length, get_or, set, is_some, Ok, sym, refl, ap, ◌∙◌, subst, inl, inr, ⊎_elim, mul_comm, mul-le-mul_left, mul-one, mul-add, arith, length-set, get_or-set_other, get_or-set_same}
-use Rattle.std.proofs.lemmas.Bool.{cases_eq, cases_lt, cases_order, cases_Bool, both_ways, cond-true, cond-false, eq-eqb, ne_eqb, eqb-true, le-leb, lt-ltb, leb-true, ltb-true, and_parts, and_from}
+use Rattle.std.proofs.Common.{◌≡◌, ℕ, ◌+◌, ◌-◌, ◌*◌, ◌<◌, ◌≤◌, min, true, ◌&&◌, eqb, ltb, leb, length, get_or, set, is_some, Ok, sym, refl, ap, ◌∙◌, subst, ⊎_elim, mul_comm, mul-le-mul_left, mul-one, mul-add, arith, length-set, get_or-set_other, get_or-set_same}
+use Rattle.std.proofs.lemmas.Bool.{cases_eq, cases_lt, cases_order, cases_Bool, both_ways, cond-true, cond-false, eq-eqb, ne_eqb, le-leb, lt-ltb, leb-true, ltb-true, and_parts, and_from}
 use Rattle.std.proofs.lemmas.Bool.Decides.{nat_tests}
 use Rattle.wire.specs.declared.pair.Seal.{Seal}
 use Rattle.wire.specs.declared.text.Text.{Text}
 use Rattle.wire.specs.Parties.{party_of}
 use Rattle.sealers.specs.declared.book.Book.{Book}
 use Rattle.sealers.specs.Books.{same_text, no_text, next_row, end_row, book_seals, book_genuine, book_given}
-use Rattle.sealers.specs.Sealing.{Sealed, spent, sealed}
+use Rattle.sealers.specs.Sealing.{spent, sealed}
 
 -- b' is b with the text in its party's next row
 pub record Written (b b' : Book) (text : Text) : Type 0 where

@@ -1,6 +1,6 @@
 -- The keyed sealer: whose key is where, what it makes genuine, and how many seals are left.
-use Rattle.std.specs.Prelude.{◌≡◌, ℕ, ◌-◌, ◌≤◌, Bool, false, cond, ◌&&◌, List, length, Some, None, Ok, Err, vec_items, vec_len, Option, Result, nat_eq, nat_le}
-use Rattle.std.specs.List.{slice_get, AllByRecursion as All}
+use Rattle.std.specs.Prelude.{◌≡◌, ℕ, ◌-◌, ◌≤◌, Bool, false, cond, ◌&&◌, List, length, Some, None, Ok, Err, vec_items, Option, Result, nat_eq, nat_le}
+use Rattle.std.specs.List.{slice_get, AllByRecursion}
 use Rattle.std.specs.Option.{option_map, unwrap_or}
 use Rattle.siphash.specs.Sip.{sip_hash}
 use Rattle.wire.specs.declared.pair.Seal.{Seal}
@@ -42,7 +42,7 @@ keyed_given k t = unwrap_or (option_map (λ row. key_seal row t) (key_row k t.pa
 
 -- 97 rows, none with more than 1,000,000 seals
 abbrev pub AllWithin : List KeyRow → Type 0
-AllWithin rows = All (λ row. row.left ≤ 1000000) rows
+AllWithin rows = AllByRecursion (λ row. row.left ≤ 1000000) rows
 
 abbrev pub KeysFit : List KeyRow → Type 0
 KeysFit rows = (length rows ≡ 97) × AllWithin rows

@@ -12,5 +12,5 @@ returns-in-1 c = record { value = omega (arith, little_1 c.args.bytes.now (omega
 pub returns-in-2 : goal.returns-in-2
 returns-in-2 c = record { value = omega (arith, little_2 c.args.bytes.now (omega arith)); small = omega arith }
 
-pub returns-in-default : goal.returns-in-default
-returns-in-default c = record { value = omega (arith, little_3 c.args.bytes.now (omega arith)); small = omega arith }
+pub returns-in_default : goal.returns-in_default
+returns-in_default c = record { value = omega (arith, little_3 c.args.bytes.now (omega arith)); small = omega arith }

@@ -1,5 +1,5 @@
 -- The blocks are taken in one by one, then the last word.
-use Rattle.std.proofs.Common.{◌≡◌, ◌<◌, ◌≤◌, length, sym, ap, ◌∙◌, arith}
+use Rattle.std.proofs.Common.{◌<◌, ◌≤◌, length, sym, ap, ◌∙◌, arith}
 use Rattle.siphash.specs.Sip.{absorbed, absorbed_all, finished, sip_hash}
 use Rattle.siphash.specs.Words.{little, message_words}
 use Rattle.siphash.proofs.Blocks.{all_left, rest_all, rest_more, absorbed_block, absorbed_last}

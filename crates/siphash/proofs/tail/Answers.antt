@@ -9,6 +9,6 @@ returns-in-Some c =
     let bs = c.args.message.now in
     let h = c.in-Some.ensures.cases in
     record {
-      value = little_behind bs c.in-Some.eight.now c.word.result h.0 (λ i. (c.ok.message i).fits) h.1.same c.word.ensures;
+      value = little_behind bs c.in-Some.eight.now c.word.result h.0 (λ i. (c.type_inv.message i).fits) h.1.same c.word.ensures;
       small = omega (arith, shr_le (c.word.result / 2 ^ 8) (56 - 8 * (length bs % 8)), c.word.type_inv);
     }

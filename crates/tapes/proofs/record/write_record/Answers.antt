@@ -19,7 +19,7 @@ unfolding encoded
 returns c =
     let n = c.args.replica.number in
     let card = c.args.card.now in
-    let out = c.put-u64-7.new.out in
+    let out = c.put_u64-7.new.out in
     let whole : length out ≤ 72 = omega arith in
     let first : take 8 c.put-2.new.out ≡ head n card =
     behind _ _ _ _ c.put.ensures c.put-2.ensures
@@ -35,6 +35,6 @@ returns c =
     behind _ _ _ (le 8 card.set.0) (
     behind _ _ _ (le 4 card.pair.stamp.count) (
     behind _ _ _ (le 4 card.epoch) first
-    c.put-u32.ensures) c.put-u32-2.ensures) c.put-u64.ensures.value) c.put-u64-2.ensures.value) c.put-u64-3.ensures.value)
-    c.put-u64-4.ensures.value) c.put-u64-5.ensures.value) c.put-u64-6.ensures.value) c.put-u64-7.ensures.value in
+    c.put_u32.ensures) c.put_u32-2.ensures) c.put_u64.ensures.value) c.put_u64-2.ensures.value) c.put_u64-3.ensures.value)
+    c.put_u64-4.ensures.value) c.put_u64-5.ensures.value) c.put_u64-6.ensures.value) c.put_u64-7.ensures.value in
     record { value = value; fits = search rules }

@@ -7,7 +7,7 @@ pub returns-then-number-record : goal.returns-then-number-record
 returns-then-number-record c =
     let xs = c.args.bytes.now in
     let part = part_is xs (c.loop-left.left - 1) in
-    ap Some (c.read-record.ensures ∙ ap (λ p. (decoded p).card) part)
+    ap Some (c.read_record.ensures ∙ ap (λ p. (decoded p).card) part)
     ∙ found_here xs c.args.number c.loop-left.left c.loop-left-test.true (c.if-number-record.true ∙ ap (λ p. get_or p 4 0) part)
     ∙ c.loop-left.invariant.1
 

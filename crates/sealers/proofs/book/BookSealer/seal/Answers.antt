@@ -1,5 +1,5 @@
 -- The text stands in its party's next row, and nothing else has changed.
-use Rattle.std.proofs.Common.{◌≡◌, ℕ, ◌+◌, true, length, get_or, set, sym, refl, ap, ◌∙◌, subst, arith}
+use Rattle.std.proofs.Common.{◌≡◌, ◌+◌, true, length, get_or, set, sym, refl, ◌∙◌, subst, arith}
 use borrow.Rule.Slice.Mut.{set_vals}
 use Rattle.sealers.specs.declared.book.Book.{Book}
 use Rattle.sealers.specs.Books.{book_seals, book_genuine}
@@ -10,8 +10,8 @@ pub returns : goal.returns
 returns c =
     let b = c.args.self.now in
     let text = c.args.text in
-    let row = c.next-row-row.result in
-    let at = c.next-row-row.ensures in
+    let row = c.next_row-row.result in
+    let at = c.next_row-row.ensures in
     let b' : Book = record { rows = set_vals (set b.rows.now row text) b.rows; share = b.share; used = set b.used text.party (get_or b.used text.party 0 + 1) } in
     let some : book_seals b text.party ≡ 0 → ⊥ = λ e. c.if-left-eq0.false (c.left.ensures ∙ e) in
     let long : length b.used ≡ 164 = omega arith in

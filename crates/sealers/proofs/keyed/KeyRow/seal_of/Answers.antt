@@ -1,5 +1,5 @@
 -- The hash is that of the text's bytes.
-use Rattle.std.proofs.Common.{◌≡◌, ap, ◌∙◌}
+use Rattle.std.proofs.Common.{ap, ◌∙◌}
 use Rattle.siphash.specs.Sip.{sip_hash}
 use Rattle.sealers.proofs.keyed.KeyRow.seal_of.Goals as goal
 

@@ -1,5 +1,5 @@
 -- The row at the party's place, if there is one.
-use Rattle.std.proofs.Common.{sym, ap, ◌∙◌, arith, rules}
+use Rattle.std.proofs.Common.{rules}
 use Rattle.std.proofs.lemmas.Option.{slice_get_read, slice_get_past}
 use Rattle.sealers.proofs.keyed.Keyed.row_of.Goals as goal
 

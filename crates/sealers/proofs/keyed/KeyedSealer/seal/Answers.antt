@@ -1,5 +1,5 @@
 -- The party's row is spent, and the seal is the one that its key gives.
-use Rattle.std.proofs.Common.{◌≡◌, set, Some, vec_items, sym, refl, ap, ◌∙◌, arith}
+use Rattle.std.proofs.Common.{set, vec_items, sym, refl, ap, ◌∙◌, arith}
 use Rattle.std.specs.Vec.{with_item}
 use Rattle.sealers.specs.declared.keyed.Keyed.{Keyed}
 use Rattle.sealers.specs.Keys.{row_at}
@@ -19,6 +19,6 @@ returns c =
     let k' : Keyed = record { rows = with_item k.rows c.in-Some-place.place c.spend.new.self } in
     let w = spent_if k k' text.party c.in-Some-place.place c.in-Some.row c.row.result.now (sym c.in-Some-place.ensures) (sym c.in-Some.ensures) k.rows.ok.0 c.row.ensures.value (ap (set (vec_items k.rows) c.in-Some-place.place) c.spend.ensures) in
     record {
-      change = change_if w text c.seal-of.result refl c.seal-of.ensures c.if-row-eq0.false;
-      grows = (given_genuine w text c.seal-of.result refl c.seal-of.ensures, λ t s g. same_genuine w t s ∙ g);
+      change = change_if w text c.seal_of.result refl c.seal_of.ensures c.if-row-eq0.false;
+      grows = (given_genuine w text c.seal_of.result refl c.seal_of.ensures, λ t s g. same_genuine w t s ∙ g);
     }
