@@ -1,6 +1,6 @@
 -- A begin keeps every rule: READ is posted in the next round, and the operation is logged with the next moment.
 -- The client is idle, log and post have room, and a write has a seal left.
-use Rattle.std.proofs.Common.{◌≡◌, ℕ, ◌+◌, ◌-◌, ◌*◌, ◌<◌, ◌≤◌, min, Bool, true, false, cond, not, ◌&&◌, eqb, ◌⊎◌, List, [], ◌∷◌, ◌++◌, length, get_or, set, is_some, Some, None, Option, sym, refl, ap, ◌∙◌, subst, inl, inr, le_of_eq, arith, length-append, length-set}
+use Rattle.std.proofs.Common.{◌≡◌, ℕ, ◌+◌, ◌-◌, ◌<◌, ◌≤◌, min, true, false, ◌&&◌, eqb, List, [], ◌∷◌, ◌++◌, length, get_or, set, is_some, Option, sym, refl, ap, ◌∙◌, subst, arith, length-append, length-set}
 use native.Mathlib.Decide.{dec_lt, ℕ_discrete}
 use borrow.Author.Tests.{clash}
 use Rattle.std.proofs.lemmas.List.{get_or_past}
@@ -10,23 +10,23 @@ use Rattle.wire.specs.declared.pair.Seal.{Seal}
 use Rattle.wire.specs.declared.party.Client.{Client}
 use Rattle.wire.specs.declared.text.Text.{Text}
 use Rattle.clients.specs.declared.line.Stage.{Stage}
-use Rattle.clients.specs.declared.line.Stage.TheVariants.{Idle, Reading, Writing, WritingBack, Over}
-use Rattle.clients.specs.Lines.{is_idle, is_reading}
+use Rattle.clients.specs.declared.line.Stage.TheVariants.{Reading, Writing, WritingBack, Over}
+use Rattle.clients.specs.Lines.{is_reading}
 use Rattle.clients.specs.Steps.{reading_next}
 use Rattle.clients.specs.Turns.{read_of}
 use Rattle.quorums.proofs.Insertion.{none_in_empty, empty_within}
 use Rattle.quorums.proofs.Sizes.{ones_empty}
-use Rattle.histories.specs.Places.{Somewhere, Posted, here, there, Everywhere, done, next}
+use Rattle.histories.specs.Places.{Posted, here, there, done, next}
 use Rattle.histories.specs.Shapes.{ReadEntry, WriteEntry}
 use Rattle.histories.specs.Histories.{Good}
 use Rattle.histories.proofs.Posting.{justified_read}
 use Rattle.halls.specs.declared.operation.Operation.{Operation}
 use Rattle.halls.specs.declared.seat.Seat.{Seat}
-use Rattle.model.specs.Tables.{Table, is_full, added, places}
-use Rattle.model.specs.Halls.{Hall, World, no_entry, no_operation, no_seat, seat_of, operation_of, with_post, with_seat, with_log}
+use Rattle.model.specs.Tables.{is_full, added, places}
+use Rattle.model.specs.Halls.{World, no_entry, no_operation, no_seat, seat_of, operation_of, with_post, with_seat, with_log}
 use Rattle.model.specs.Beginning.{new_operation, word_or_none}
-use Rattle.model.proofs.Frames.{history_added, later_card, later_configuration, later_seat, later_stamped, later_text, QuietReplica, QuietClient}
-use Rattle.model.proofs.Invariants.{views, history, stamp_number, Sized, StampedWrite, OverBefore, SettledSomewhere, OperationRule, ReadingRule, SeatRule, LogRule, ends, Holds, Later}
+use Rattle.model.proofs.Frames.{history_added, later_card, later_configuration, later_seat, later_text}
+use Rattle.model.proofs.Invariants.{views, history, stamp_number, StampedWrite, OverBefore, SettledSomewhere, OperationRule, ReadingRule, SeatRule, LogRule, ends, Holds, Later}
 use Rattle.model.proofs.Posts.{before_end, at_end, places_added, answers_posted, no_answer, operation_later, seats_begin}
 use Rattle.model.proofs.SlipKeeps.{seat_same, seat_other}
 

@@ -1,6 +1,6 @@
 -- The card of an honest replica: what a write, a configuration and a state transfer make of it keeps its rule.
 -- Each lemma speaks of one world, in which the entry that is taken stands in the post.
-use Rattle.std.proofs.Common.{◌≡◌, ℕ, ◌+◌, ◌*◌, ◌<◌, ◌≤◌, Bool, true, false, cond, leb, ◌⊎◌, List, length, sym, refl, ap, ◌∙◌, subst, inl, inr, arith, leb-true}
+use Rattle.std.proofs.Common.{◌≡◌, ℕ, ◌+◌, ◌<◌, ◌≤◌, true, ◌⊎◌, List, length, sym, ap, ◌∙◌, subst, inl, inr, arith, leb-true}
 use lib.Count.{ones}
 use borrow.Author.Tests.{clash}
 use native.Mathlib.Decide.{dec_lt}
@@ -12,12 +12,12 @@ use Rattle.wire.specs.Sets.{member, inserted}
 use Rattle.stores.specs.declared.card.Card.{Card}
 use Rattle.rules.specs.Genuine.{quorum_size}
 use Rattle.replicas.specs.Decisions.{holding, entering, higher, stocked}
-use Rattle.quorums.specs.Quorums.{Views, Within, Quorum}
+use Rattle.quorums.specs.Quorums.{Views, Within}
 use Rattle.quorums.proofs.Insertion.{none_in_empty, empty_within, inserted_cases, inserted_within}
 use Rattle.histories.specs.Histories.{Served, Stocked, StockedTo, Evidence, Fetched}
 use Rattle.histories.proofs.Growth.{evidence_grows, stocked_to_grows}
 use Rattle.histories.proofs.Extension.{evidence_extends}
-use Rattle.model.specs.Halls.{Hall, World}
+use Rattle.model.specs.Halls.{World}
 use Rattle.model.proofs.Frames.{later_views, later_past, later_pair, later_genuine}
 use Rattle.model.proofs.Invariants.{views, history, stamp_number, issued_as, KnownConfiguration, KnownPair, Genuine, CardRule, Later}
 

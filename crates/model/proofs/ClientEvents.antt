@@ -1,17 +1,11 @@
 -- What a step of a client does to its line of the log: nothing, or it takes its stamp, or it ends.
 -- Told from the moves of a client, in a world that meets the rules.
-use Rattle.std.proofs.Common.{◌≡◌, ℕ, ◌+◌, ◌-◌, ◌<◌, ◌≤◌, Bool, true, false, cond, not, ◌&&◌, eqb, ◌⊎◌, List, Some, None, Ok, Err, Option, Result, sym, refl, ap, ◌∙◌, subst, subst₂, inl, inr, arith}
+use Rattle.std.proofs.Common.{◌≡◌, ℕ, Bool, true, false, not, ◌&&◌, eqb, ◌⊎◌, Ok, Err, Option, sym, refl, ap, ◌∙◌, subst, subst₂, inl, inr, arith}
 use borrow.Author.Tests.{clash}
-use Rattle.kinds.specs.declared.word.Word.{Word}
 use Rattle.wire.specs.declared.entry.Entry.{Entry}
 use Rattle.wire.specs.declared.pair.Seal.{Seal}
 use Rattle.wire.specs.declared.party.Client.{Client}
-use Rattle.wire.specs.declared.party.Replica.{Replica}
-use Rattle.wire.specs.declared.text.Text.{Text}
 use Rattle.wire.specs.Texts.{pair_text}
-use Rattle.sealers.specs.declared.fault.SealerFault.{SealerFault}
-use Rattle.sealers.specs.declared.fault.SealerFault.TheVariants.{NoSeal}
-use Rattle.sealers.specs.Sealing.{Sealed, sealed, spent}
 use Rattle.rules.specs.declared.rules.Rules.{Rules}
 use Rattle.rules.specs.Genuine.{genuine_entry}
 use Rattle.clients.specs.declared.line.Line.{Line}
@@ -19,16 +13,16 @@ use Rattle.clients.specs.declared.line.Stage.{Stage}
 use Rattle.clients.specs.declared.line.Stage.TheVariants.{Idle, Reading, Writing, WritingBack, Over}
 use Rattle.clients.specs.declared.turn.Turn.{Turn}
 use Rattle.clients.specs.declared.turn.Turn.TheVariants.{Moves, Stamps}
-use Rattle.clients.specs.Lines.{is_open, is_idle, is_reading, is_writing, sealed_with}
+use Rattle.clients.specs.Lines.{is_open, is_idle, is_writing, sealed_with}
 use Rattle.clients.specs.Steps.{acted, signing}
 use Rattle.clients.specs.Turns.{Verdict, decided}
 use Rattle.halls.specs.declared.operation.Operation.{Operation}
 use Rattle.halls.specs.declared.seat.Seat.{Seat}
-use Rattle.model.specs.Halls.{Hall, World, seat_of, operation_of}
-use Rattle.model.specs.Delivering.{client_step_of, desk_of, is_over, is_stamping, has_ended, logged}
-use Rattle.model.proofs.Invariants.{SeatRule, OwnRule, Holds}
-use Rattle.model.proofs.ClientMoves.{ClientMove, counts_pair, ends_read, writes_back, takes_stamp, counts_ack, ends_write, goes_on, reads_again, writes_again, replies, Hears, Acked, client_view}
-use Rattle.model.proofs.Ways.{way, way_in, not_ok, ok_same}
+use Rattle.model.specs.Halls.{World, seat_of, operation_of}
+use Rattle.model.specs.Delivering.{client_step_of, desk_of, is_over, is_stamping, has_ended}
+use Rattle.model.proofs.Invariants.{SeatRule}
+use Rattle.model.proofs.ClientMoves.{ClientMove, counts_pair, ends_read, writes_back, takes_stamp, counts_ack, ends_write, goes_on, reads_again, writes_again, replies, client_view}
+use Rattle.model.proofs.Ways.{way_in, not_ok, ok_same}
 
 -- the turn of a client's step, and the line that came of it
 pub data Turned (rules : Rules) (client : Client) (before : Line) (e : Entry) (genuine : Bool) (line : Line) (post : Option Entry) : Type 0 where

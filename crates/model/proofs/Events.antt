@@ -1,15 +1,14 @@
 -- What a call does to the log: nothing begins or ends, or one operation begins, or one ends.
 -- Told from the calls' definitions, in a world that meets the rules.
-use Rattle.std.proofs.Common.{◌≡◌, ℕ, ◌+◌, ◌-◌, ◌<◌, ◌≤◌, Bool, true, false, cond, not, ◌&&◌, ◌||◌, eqb, ltb, leb, List, [], ◌∷◌, ◌++◌, length, get_or, set, is_some, Some, None, Ok, Err, Option, Result, sym, refl, ap, ◌∙◌, subst, arith, length-append, length-set, get_or-set_other, get_or-set_same, ltb-true, eqb-true, leb-true}
+use Rattle.std.proofs.Common.{◌≡◌, ℕ, ◌+◌, ◌-◌, ◌<◌, ◌≤◌, Bool, true, false, cond, not, ◌&&◌, ◌||◌, eqb, ltb, leb, List, length, get_or, set, is_some, Some, None, Ok, Err, Option, Result, sym, refl, ap, ◌∙◌, subst, arith, length-append, length-set, get_or-set_other, get_or-set_same}
 use native.Mathlib.Decide.{ℕ_discrete, dec_lt}
-use borrow.Author.Tests.{clash, eqb-false}
+use borrow.Author.Tests.{clash}
 use Rattle.std.proofs.lemmas.List.{get_or_past}
 use Rattle.kinds.specs.declared.word.Word.{Word}
 use Rattle.wire.specs.declared.entry.Entry.{Entry}
 use Rattle.wire.specs.declared.party.Client.{Client}
 use Rattle.wire.specs.declared.party.Party.{Party}
 use Rattle.wire.specs.declared.party.Party.TheVariants.{Source as The-source, Client as A-client, Replica as A-replica}
-use Rattle.wire.specs.declared.party.Replica.{Replica}
 use Rattle.wire.specs.declared.set.ReplicaSet.{ReplicaSet}
 use Rattle.wire.specs.declared.text.Text.{Text}
 use Rattle.wire.specs.Entries.{kind_of}
@@ -31,17 +30,17 @@ use Rattle.model.specs.Halls.{Hall, World, Kind, no_operation, no_seat, seat_of,
 use Rattle.model.specs.Answers.{Answer, done, slip, pair, refused, Outcome, has_moment}
 use Rattle.model.specs.Beginning.{begin_called, begin_by, begin_done, new_operation}
 use Rattle.model.specs.Calls.{Call, issue, begin_read, begin_write, deliver, call_off, collect, lodge, redeem, meddle, Step}
-use Rattle.model.specs.Delivering.{posting, by_replica, by_client, client_moves, deliver_called, deliver_to, entry_of, fits_client, fits_replica, client_step_of, replica_step_of, client_done, replica_done, is_over, is_stamping, has_ended, logged, moment_after}
+use Rattle.model.specs.Delivering.{posting, by_replica, by_client, client_moves, deliver_called, deliver_to, entry_of, fits_client, fits_replica, client_step_of, replica_step_of, client_done, is_over, logged}
 use Rattle.model.specs.Issuing.{issue_called, issue_done, is_right_set, has_too_many_marked}
 use Rattle.model.specs.Meddling.{meddle_called, meddle_by}
-use Rattle.model.specs.Slips.{call_off_called, collect_called, collecting, lodge_called, redeem_called, redeeming, is_its_slip, freed}
+use Rattle.model.specs.Slips.{call_off_called, collect_called, collecting, lodge_called, redeem_called, redeeming, is_its_slip}
 use Rattle.model.proofs.ClientEvents.{turned, LineChange, unchanged, stamps_now, ends_now, line_change, opens_busy}
 use Rattle.model.proofs.Invariants.{OwnRule, SeatRule, Holds}
 use Rattle.model.proofs.Parties.{client_in}
 use Rattle.model.proofs.Posts.{before_end, at_end}
 use Rattle.model.proofs.SlipKeeps.{seat_same}
 use Rattle.model.proofs.StepKeeps.{became}
-use Rattle.model.proofs.Ways.{way, way_in, neither, not-false}
+use Rattle.model.proofs.Ways.{way, way_in}
 
 -- nothing began or ended
 pub record SameLog (h h' : Hall) : Type 0 where

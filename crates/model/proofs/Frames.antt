@@ -1,6 +1,6 @@
 -- What stays when a world grows: known pairs and texts, cards of replicas and seats of clients that did nothing.
 -- The lemmas take two worlds of which the second is later.
-use Rattle.std.proofs.Common.{◌≡◌, ℕ, zero, suc, ◌+◌, ◌-◌, ◌*◌, ◌<◌, ◌≤◌, Bool, true, false, ◌&&◌, ◌⊎◌, List, [], ◌∷◌, ◌++◌, reverse, length, get_or, sym, refl, ap, ◌∙◌, subst, inl, inr, ⊎_elim, append_assoc, arith}
+use Rattle.std.proofs.Common.{◌≡◌, ℕ, zero, suc, ◌+◌, ◌-◌, ◌<◌, ◌≤◌, true, false, ◌&&◌, List, [], ◌∷◌, ◌++◌, reverse, length, get_or, sym, refl, ap, ◌∙◌, subst, ⊎_elim, append_assoc, arith}
 use mathlib.Core.List.{reverse-append}
 use lib.ListN.{length-reverse}
 use Rattle.std.proofs.lemmas.List.{get_or-reverse, get_or_past}
@@ -15,10 +15,10 @@ use Rattle.wire.specs.Texts.{pair_text, configuration_text}
 use Rattle.rules.specs.Genuine.{genuine_pair, same_pair, opening_pair, is_client}
 use Rattle.stores.specs.declared.card.Card.{Card}
 use Rattle.clients.specs.Lines.{is_idle}
-use Rattle.quorums.specs.Quorums.{Views, Extends, Honest, Within}
+use Rattle.quorums.specs.Quorums.{Extends, Within}
 use Rattle.quorums.proofs.Meeting.{honest_before}
 use Rattle.quorums.proofs.Insertion.{none_in_empty}
-use Rattle.histories.specs.Places.{Somewhere, Posted, Everywhere}
+use Rattle.histories.specs.Places.{Posted, Everywhere}
 use Rattle.histories.specs.Places.Somewhere.{here, there}
 use Rattle.histories.specs.Places.Everywhere.{done, next}
 use Rattle.histories.specs.Shapes.{ReadEntry, WriteEntry}

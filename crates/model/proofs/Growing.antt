@@ -1,11 +1,11 @@
 -- What was said of an operation in the log stands from then on.
 -- From the events of calls, over as many calls as there are.
-use Rattle.std.proofs.Common.{◌≡◌, ℕ, zero, suc, ◌+◌, ◌-◌, ◌<◌, ◌≤◌, Bool, true, false, List, length, sym, refl, ap, ◌∙◌, subst, add-one, arith}
+use Rattle.std.proofs.Common.{◌≡◌, ℕ, ◌<◌, ◌≤◌, true, length, sym, refl, ap, ◌∙◌, subst, arith}
 use native.Mathlib.Decide.{ℕ_discrete, dec_lt}
-use Rattle.model.specs.Halls.{Hall, World, Kind, no_operation, operation_of}
+use Rattle.model.specs.Halls.{Hall, Kind, no_operation, operation_of}
 use Rattle.model.specs.Answers.{Answer}
 use Rattle.model.specs.Calls.{Call}
-use Rattle.model.proofs.Events.{Event, nothing, begins, ends, SameLog, BegunLog, EndedLog}
+use Rattle.model.proofs.Events.{Event, nothing, begins, ends}
 use Rattle.std.proofs.lemmas.List.{get_or_past}
 
 -- the log of one hall goes on in another

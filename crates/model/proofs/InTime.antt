@@ -1,12 +1,11 @@
 -- The moments of the log keep the order of begins and ends.
 -- Each begin and each end takes the moment after that of the world it meets.
-use Rattle.std.proofs.Common.{◌≡◌, ℕ, ◌+◌, ◌<◌, ◌≤◌, List, sym, refl, ap, ◌∙◌, subst, arith}
+use Rattle.std.proofs.Common.{◌≡◌, ℕ, ◌+◌, ◌<◌, sym, ◌∙◌, arith}
 use Rattle.model.specs.Halls.{World, Kind, operation_of}
-use Rattle.model.specs.Order.{Operation, Ended}
 use Rattle.model.specs.Moments.{Event, begins, ends, MomentsInOrder}
 use Rattle.model.specs.Runs.{Lawful, Opened, Run, Unforged}
 use Rattle.model.proofs.Growing.{Grows}
-use Rattle.model.proofs.Trace.{grows, Started, started, told, EndAt, ended_at}
+use Rattle.model.proofs.Trace.{grows, started, told, EndAt, ended_at}
 
 module _ {V : Type 0} (kind : Kind V) (v : V) (start : World) (lawful : Lawful kind) (opened : Opened kind v start.hall) (run : Run kind start) (unforged : Unforged run) where
   -- the moment of what happened at position p

@@ -1,6 +1,6 @@
 -- What holds of every world that a run reaches: of its roll, its sealed texts, its cards, its seats and its log.
 -- Nothing here is assumed: `Holds` is proved for the opening, and kept by every call of a run whose seals are not forged.
-use Rattle.std.proofs.Common.{◌≡◌, ℕ, ◌+◌, ◌*◌, ◌<◌, ◌≤◌, min, Bool, true, false, List, [], ◌∷◌, ◌++◌, reverse, length, get_or, is_some, Some, None, Option}
+use Rattle.std.proofs.Common.{◌≡◌, ℕ, ◌+◌, ◌*◌, ◌<◌, ◌≤◌, min, true, false, List, [], ◌∷◌, ◌++◌, reverse, length, get_or, Some, None}
 use mathlib.Core.List.{Memᴰ}
 use lib.Count.{ones}
 use Rattle.kinds.specs.declared.word.Word.{Word}
@@ -13,21 +13,18 @@ use Rattle.wire.specs.Entries.{pair_of}
 use Rattle.wire.specs.Sets.{member}
 use Rattle.wire.specs.Texts.{pair_text, configuration_text}
 use Rattle.stores.specs.declared.card.Card.{Card}
-use Rattle.rules.specs.declared.rules.Rules.{Rules}
 use Rattle.rules.specs.Genuine.{genuine_pair}
-use Rattle.clients.specs.declared.line.Line.{Line}
-use Rattle.clients.specs.declared.line.Stage.{Stage}
-use Rattle.clients.specs.declared.line.Stage.TheVariants.{Idle, Reading, Writing, WritingBack, Over}
+use Rattle.clients.specs.declared.line.Stage.TheVariants.{Reading, Writing, WritingBack, Over}
 use Rattle.clients.specs.Lines.{is_idle}
 use Rattle.quorums.specs.Quorums.{Views, Sound, Within, Honest}
-use Rattle.histories.specs.Places.{Posted, Everywhere}
+use Rattle.histories.specs.Places.{Posted}
 use Rattle.histories.specs.Shapes.{ReadEntry, WriteEntry, PairEntry, AckEntry}
-use Rattle.histories.specs.Histories.{Served, ServedFrom, Stocked, StockedTo, Evidence, Settled, Good}
+use Rattle.histories.specs.Histories.{Served, Stocked, StockedTo, Evidence, Settled, Good}
 use Rattle.histories.specs.Reads.{Answered}
 use Rattle.halls.specs.declared.operation.Operation.{Operation}
 use Rattle.halls.specs.declared.seat.Seat.{Seat}
 use Rattle.model.specs.Tables.{places}
-use Rattle.model.specs.Halls.{Hall, World, Kind, no_configuration, no_operation, has_its_tables, seat_of, operation_of}
+use Rattle.model.specs.Halls.{Hall, World, no_configuration, has_its_tables, seat_of, operation_of}
 use Rattle.model.specs.Runs.{text_of}
 use Rattle.model.specs.Delivering.{entry_of}
 

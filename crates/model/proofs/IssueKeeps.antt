@@ -1,15 +1,13 @@
 -- Issue keeps every rule: one more configuration in the roll, its text sealed, CONFIG in the post.
 -- The set has been found right, and roll and post have room.
-use Rattle.std.proofs.Common.{◌≡◌, ℕ, ◌+◌, ◌-◌, ◌*◌, ◌<◌, ◌≤◌, Bool, true, false, cond, not, ◌&&◌, eqb, leb, ◌⊎◌, List, [], ◌∷◌, ◌++◌, length, get_or, Some, None, sym, refl, ap, ◌∙◌, subst, inl, inr, le_of_eq, arith, length-append, eqb-true, leb-true}
+use Rattle.std.proofs.Common.{◌≡◌, ℕ, ◌+◌, ◌*◌, ◌<◌, ◌≤◌, Bool, true, false, ◌&&◌, eqb, ◌⊎◌, List, [], ◌∷◌, ◌++◌, length, get_or, sym, refl, ap, ◌∙◌, subst, inl, inr, le_of_eq, arith, length-append, eqb-true, leb-true}
 use mathlib.Core.List.Memᴰ
 use mathlib.Core.List.{Memᴰ}
 use native.Mathlib.Decide.{dec_lt}
 use lib.Bits.{bit_and}
 use lib.Count.{ones}
-use borrow.Author.Tests.{clash}
 use Rattle.wire.specs.declared.pair.Configuration.{Configuration}
 use Rattle.wire.specs.declared.pair.Seal.{Seal}
-use Rattle.wire.specs.declared.entry.Entry.{Entry}
 use Rattle.wire.specs.declared.text.Text.{Text}
 use Rattle.wire.specs.Texts.{configuration_text}
 use Rattle.rules.specs.Posts.{config_entry}
@@ -20,10 +18,10 @@ use Rattle.histories.specs.Places.{done, next}
 use Rattle.histories.specs.Histories.{Good}
 use Rattle.histories.proofs.Extension.{good_extends}
 use Rattle.histories.proofs.Posting.{justified_unruled}
-use Rattle.model.specs.Tables.{Table, is_full, added, places}
-use Rattle.model.specs.Halls.{Hall, World, no_configuration, no_entry, seat_of, with_post, with_seals, with_source}
+use Rattle.model.specs.Tables.{is_full, added, places}
+use Rattle.model.specs.Halls.{World, no_configuration, no_entry, seat_of, with_post, with_seals, with_source}
 use Rattle.model.specs.Issuing.{is_right_set, has_too_many_marked}
-use Rattle.model.proofs.Frames.{history_added, later_views, later_card, later_seat, later_text, QuietReplica, QuietClient}
+use Rattle.model.proofs.Frames.{history_added, later_views, later_card, later_seat, later_text}
 use Rattle.model.proofs.Invariants.{views, history, issued_as, Sized, RollRule, KnownText, of_configuration, Holds, Later}
 use Rattle.model.proofs.Posts.{before_end, at_end, places_added, answers_posted, no_answer, log_later, seats_begin}
 use Rattle.model.proofs.Ways.{both, not-false}

@@ -1,27 +1,24 @@
 -- One order for the operations of a run: the order of stamps in the final log, told by positions.
 -- The log's rules give the timestamps that the ordering theorem asks for.
-use Rattle.std.proofs.Common.{◌≡◌, ℕ, zero, suc, ◌+◌, ◌-◌, ◌*◌, ◌<◌, ◌≤◌, Bool, true, false, cond, not, ◌&&◌, ◌||◌, eqb, ltb, leb, ◌⊎◌, List, [], ◌∷◌, ◌++◌, map, length, is_some, Some, None, Option, sym, refl, ap, ◌∙◌, subst, inl, inr, add-one, arith, ltb-true, lt-ltb, eq-eqb, ne_eqb, eqb-true}
+use Rattle.std.proofs.Common.{◌≡◌, ℕ, zero, suc, ◌+◌, ◌*◌, ◌<◌, ◌≤◌, Bool, true, false, cond, ◌&&◌, ◌||◌, eqb, ltb, ◌⊎◌, List, [], ◌∷◌, ◌++◌, map, length, is_some, Some, None, Option, sym, refl, ap, ◌∙◌, subst, inl, inr, arith, ltb-true, lt-ltb, eq-eqb, ne_eqb}
 use mathlib.Core.List.Memᴰ
 use mathlib.Core.List.Memᴰ.{head as here}
 use mathlib.Core.List.Memᴰ.{tail as there}
-use mathlib.Core.List.{Memᴰ}
-use native.Mathlib.Decide.{ℕ_discrete, dec_lt}
+use native.Mathlib.Decide.{ℕ_discrete}
 use borrow.Author.Tests.{clash}
 use Rattle.kinds.specs.declared.word.Word.{Word}
-use Rattle.orders.specs.Order.{◌∈◌, Distinct, Operations, Precedes, last_written, Stamped, Order, Origin}
+use Rattle.orders.specs.Order.{◌∈◌, Operations, Precedes, last_written, Stamped, Order, Origin}
 use Rattle.orders.specs.Order.Origin.{the_opening as from-opening, a_write as from-write}
 use Rattle.orders.proofs.Theorem.{stamped_operations_have_an_order}
 use Rattle.model.specs.Halls.{Hall, World, Kind, operation_of}
-use Rattle.model.specs.Answers.{slip}
-use Rattle.model.specs.Calls.{Call, begin_read, begin_write}
-use Rattle.model.specs.Order.{Operation, a_read, a_write, Ended, Finished, Writes, value_written, newer, held_after, InOrder, Linearizable}
+use Rattle.model.specs.Order.{Operation, Ended, Finished, Writes, value_written, newer, held_after, InOrder, Linearizable}
 use Rattle.model.specs.Runs.{Lawful, Opened, Run, Unforged}
 use Rattle.model.proofs.Events.{EndedLog, BeginCall, by_read, by_write, begins_slip, slips}
-use Rattle.model.proofs.Images.{SplitFrom, split_from, map_member, ComesFrom, comes_from, below, IsBelow, below_only, below_all, below_distinct}
+use Rattle.model.proofs.Images.{split_from, map_member, comes_from, below, IsBelow, below_only, below_all, below_distinct}
 use Rattle.model.proofs.Growing.{Grows, ended_logged}
 use Rattle.model.proofs.Invariants.{stamp_number, StampedWrite, KnownPair, the_opening, a_write as of-a-write, OverBefore, Holds}
 use Rattle.model.proofs.RunKeeps.{sealed_at, holds_at}
-use Rattle.model.proofs.Trace.{grows, StartOf, Started, started, operation_started, Told, told, FoundStart, found_start, one_start, EndsHere, FoundEnd, found_end, Valued, opening_stays, EndAt, end_client, ended_valued, ended_told, ended_at}
+use Rattle.model.proofs.Trace.{grows, StartOf, started, operation_started, Told, told, found_start, found_end, opening_stays, EndAt, end_client, ended_valued, ended_told, ended_at}
 use Rattle.wire.specs.declared.text.Text.{Text}
 use Rattle.model.proofs.Ways.{both, some_same, not_some}
 

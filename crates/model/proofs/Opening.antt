@@ -1,26 +1,22 @@
 -- What an opening leaves meets every rule: nothing is posted, logged or sealed yet.
 -- The world has any sealer and any store that the opening could leave.
-use Rattle.std.proofs.Common.{◌≡◌, ℕ, ◌+◌, ◌*◌, ◌<◌, ◌≤◌, Bool, true, false, cond, not, ◌&&◌, ◌||◌, eqb, leb, List, [], ◌∷◌, reverse, length, get_or, Some, None, sym, refl, ap, ◌∙◌, subst, arith, eq-eqb, eqb-true, leb-true}
+use Rattle.std.proofs.Common.{◌≡◌, ℕ, ◌+◌, ◌*◌, ◌<◌, ◌≤◌, true, false, List, [], ◌∷◌, reverse, length, get_or, sym, refl, ap, ◌∙◌, subst, arith, eq-eqb, eqb-true, leb-true}
 use mathlib.Core.List.Memᴰ
-use mathlib.Core.List.{Memᴰ}
 use lib.Bits.{bit_and}
 use lib.Count.{ones}
 use borrow.Author.Tests.{clash, not-false}
 use Rattle.wire.specs.declared.entry.Entry.{Entry}
 use Rattle.wire.specs.declared.pair.Pair.{Pair}
-use Rattle.wire.specs.declared.text.Text.{Text}
-use Rattle.stores.specs.declared.card.Card.{Card}
 use Rattle.rules.specs.Genuine.{same_pair, opening_pair, first_configuration, genuine_pair}
 use Rattle.clients.specs.declared.line.Stage.{Stage}
 use Rattle.clients.specs.declared.line.Stage.TheVariants.{Idle, Reading, Writing, WritingBack, Over}
 use Rattle.clients.specs.Lines.{is_idle}
 use Rattle.quorums.specs.Quorums.{Sound}
-use Rattle.histories.specs.Places.{Somewhere, here, there, Everywhere, done}
+use Rattle.histories.specs.Places.{Somewhere, here, there, done}
 use Rattle.histories.specs.Histories.{Good}
-use Rattle.halls.specs.declared.seat.Seat.{Seat}
-use Rattle.model.specs.Halls.{Hall, World, Kind, no_configuration, seat_of, operation_of}
+use Rattle.model.specs.Halls.{World, Kind, no_configuration}
 use Rattle.model.specs.Runs.{Opened, first_card, first_seat}
-use Rattle.model.proofs.Invariants.{views, history, issued_as, Sized, RollRule, CardRule, CardOf, StampedWrite, the_opening, SeatRule, LogRule, ends, Holds}
+use Rattle.model.proofs.Invariants.{views, history, issued_as, CardRule, the_opening, SeatRule, ends, Holds}
 use Rattle.model.proofs.Ways.{both}
 
 -- an idle client is in no other stage

@@ -1,6 +1,6 @@
 -- Which party a number names, told from the definition.
 -- Nothing is assumed.
-use Rattle.std.proofs.Common.{◌≡◌, ℕ, ◌+◌, ◌-◌, ◌<◌, ◌≤◌, Bool, true, false, cond, ◌&&◌, eqb, ltb, leb, Some, None, Option, sym, refl, ap, ◌∙◌, arith, ltb-true, leb-true}
+use Rattle.std.proofs.Common.{◌≡◌, ℕ, ◌+◌, ◌-◌, ◌<◌, ◌≤◌, ◌&&◌, eqb, ltb, leb, Some, None, Option, sym, ap, arith, ltb-true, leb-true}
 use Rattle.std.specs.Option.{option_map}
 use Rattle.kinds.specs.Partials.{only_if_some}
 use Rattle.wire.specs.declared.party.Client.{Client}
@@ -10,7 +10,7 @@ use Rattle.wire.specs.declared.party.Replica.{Replica}
 use Rattle.wire.specs.Parties.{party_of, client_of, replica_of}
 use Rattle.rules.specs.declared.rules.Rules.{Rules}
 use Rattle.model.specs.Halls.{party_within, party_in}
-use Rattle.model.proofs.Ways.{way, not_some, some_same, both}
+use Rattle.model.proofs.Ways.{way, not_some, both}
 
 client_same : {c d : Client} → ◌≡◌ {A = Option Party} (Some (A-client c)) (Some (A-client d)) → c ≡ d
 client_same p = cc

@@ -1,7 +1,6 @@
 -- Posting an entry, and putting a card in a store: what each asks for so that all rules still hold.
 -- The lemmas build the world that comes of it.
-use Rattle.std.proofs.Common.{◌≡◌, ℕ, ◌+◌, ◌-◌, ◌*◌, ◌<◌, ◌≤◌, Bool, true, false, cond, ◌&&◌, eqb, ◌⊎◌, List, [], ◌∷◌, ◌++◌, length, get_or, Some, None, Option, sym, refl, ap, ◌∙◌, subst, inl, inr, arith, length-append, eq-eqb, ne_eqb}
-use mathlib.Core.List.{Memᴰ}
+use Rattle.std.proofs.Common.{◌≡◌, ℕ, ◌+◌, ◌-◌, ◌<◌, ◌≤◌, false, cond, ◌&&◌, eqb, List, [], ◌∷◌, ◌++◌, length, get_or, Some, Option, sym, refl, ap, ◌∙◌, subst, arith, length-append, eq-eqb, ne_eqb}
 use native.Mathlib.Decide.{dec_lt, ℕ_discrete}
 use lib.ListN.{get_or-append}
 use lib.Seq.{get_or-append_seam}
@@ -13,18 +12,18 @@ use Rattle.stores.specs.declared.card.Card.{Card}
 use Rattle.stores.specs.declared.store.Saves.{Saves}
 use Rattle.stores.specs.Saved.{put}
 use Rattle.quorums.specs.Quorums.{Honest}
-use Rattle.histories.specs.Places.{Everywhere, done, next}
+use Rattle.histories.specs.Places.{done, next}
 use Rattle.histories.specs.Histories.{Good, Justified}
-use Rattle.histories.proofs.Extension.{good_extends, settled_extends}
+use Rattle.histories.proofs.Extension.{settled_extends}
 use Rattle.histories.proofs.Growth.{settled_grows}
 use Rattle.clients.specs.Lines.{is_idle}
 use Rattle.halls.specs.declared.seat.Seat.{Seat}
 use Rattle.model.specs.Tables.{Table, is_empty, is_full, tail, added, places}
-use Rattle.model.specs.Halls.{Hall, World, no_entry, no_operation, no_seat, seat_of, operation_of, with_post, with_store}
+use Rattle.model.specs.Halls.{World, no_entry, no_operation, no_seat, seat_of, operation_of, with_post, with_store}
 use Rattle.model.specs.Delivering.{entry_of}
 use Rattle.model.proofs.Cards.{card_later}
-use Rattle.model.proofs.Frames.{history_added, later_past, later_pair, later_text, later_views, later_answer, later_card, later_seat, QuietReplica, QuietClient}
-use Rattle.model.proofs.Invariants.{views, history, stamp_number, StampedWrite, OverBefore, Sized, RollRule, KnownText, KnownPair, CardRule, CardOf, AnswerRule, OperationRule, SettledSomewhere, SeatRule, LogRule, Holds, Later, ends}
+use Rattle.model.proofs.Frames.{history_added, later_past, later_pair, later_text, later_views, later_answer, later_seat, QuietClient}
+use Rattle.model.proofs.Invariants.{views, history, stamp_number, StampedWrite, OverBefore, Sized, CardRule, CardOf, AnswerRule, OperationRule, SettledSomewhere, SeatRule, LogRule, Holds, Later}
 
 -- the world with one more entry in its post
 abbrev pub posted_in : World → Entry → World

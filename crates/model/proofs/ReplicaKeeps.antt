@@ -1,8 +1,7 @@
 -- The step of a replica keeps every rule.
 -- The entry that is handed over stands in the post, and the post has room.
-use Rattle.std.proofs.Common.{◌≡◌, ℕ, ◌+◌, ◌-◌, ◌<◌, ◌≤◌, Bool, true, false, cond, ◌&&◌, eqb, ltb, leb, ◌⊎◌, List, [], ◌∷◌, length, Some, None, Ok, Err, Option, Result, sym, refl, ap, ◌∙◌, subst, subst₂, inl, inr, le_of_lt, arith, eq-eqb, eqb-true, leb-true}
+use Rattle.std.proofs.Common.{◌≡◌, ℕ, ◌+◌, ◌-◌, ◌<◌, ◌≤◌, Bool, true, false, cond, ◌&&◌, eqb, ltb, leb, List, length, Some, None, Ok, Err, Option, sym, refl, ap, ◌∙◌, subst, subst₂, le_of_lt, arith, eq-eqb, eqb-true, leb-true}
 use Rattle.kinds.specs.Partials.{only_if_some}
-use borrow.Author.Tests.{clash}
 use Rattle.std.proofs.lemmas.Bool.Decides.{nat_tests}
 use Rattle.wire.specs.declared.entry.Entry.{Entry}
 use Rattle.wire.specs.declared.pair.Pair.{Pair}
@@ -15,26 +14,26 @@ use Rattle.wire.specs.Stamps.{above}
 use Rattle.stores.specs.declared.card.Card.{Card}
 use Rattle.stores.specs.declared.store.Saves.{Saves}
 use Rattle.stores.specs.declared.fault.StoreFault.TheVariants.{NoSave}
-use Rattle.stores.specs.Saved.{after, put, none_left, one_fewer, saved}
+use Rattle.stores.specs.Saved.{after, put, none_left, one_fewer}
 use Rattle.rules.specs.Genuine.{genuine_entry, genuine_by_kind}
 use Rattle.rules.specs.Senders.{sender_within}
 use Rattle.replicas.specs.declared.decision.Decision.{Decision}
-use Rattle.replicas.specs.Decisions.{Verdict, holding, entering, stocked, higher, decided}
-use Rattle.replicas.specs.Steps.{Stepped, after_save, saving, acted, with_card}
+use Rattle.replicas.specs.Decisions.{Verdict, holding, entering, stocked, decided}
+use Rattle.replicas.specs.Steps.{after_save, saving, acted, with_card}
 use Rattle.quorums.specs.Quorums.{Honest}
 use Rattle.histories.specs.Places.{Posted}
-use Rattle.histories.specs.Shapes.{stamp_of, ReadEntry, WriteEntry, StockEntry}
+use Rattle.histories.specs.Shapes.{stamp_of, ReadEntry, WriteEntry}
 use Rattle.histories.proofs.Places.{posted_map}
 use Rattle.model.specs.Tables.{is_full}
-use Rattle.model.specs.Halls.{Hall, World}
+use Rattle.model.specs.Halls.{World}
 use Rattle.model.specs.Delivering.{entry_of, fits_replica, posting, replica_step_of, shelf_of, is_client_number, is_replica_number}
 use Rattle.model.specs.Halls.{with_store}
 use Rattle.model.specs.Runs.{text_of, text_by_kind}
 use Rattle.model.proofs.Cards.{card_raised, card_entering, card_stocked, NotLower}
 use Rattle.model.proofs.Frames.{posted_entry}
-use Rattle.model.proofs.Invariants.{views, history, stamp_number, issued_as, KnownConfiguration, KnownPair, Genuine, CardRule, CardOf, Holds, UnforgedNow}
-use Rattle.model.proofs.Posts.{posted_in, saved_in, card_keeps}
-use Rattle.model.proofs.ReplicaMoves.{ReplicaMove, talks, answers_read, keeps, takes, enters, enters_outside, gives, hears, Talks, Serving, Entering, Giving, Hearing, replica_view}
+use Rattle.model.proofs.Invariants.{views, history, KnownConfiguration, KnownPair, Genuine, CardRule, CardOf, Holds, UnforgedNow}
+use Rattle.model.proofs.Posts.{saved_in, card_keeps}
+use Rattle.model.proofs.ReplicaMoves.{ReplicaMove, talks, answers_read, keeps, takes, enters, enters_outside, gives, hears, Hearing, replica_view}
 use Rattle.model.proofs.ReplicaPosts.{Owed, replica_posts, owed_unruled, owed_pair, owed_ack, owed_stock}
 use Rattle.model.proofs.Seals.{checked_pair, checked_configuration, known_writer}
 use Rattle.model.proofs.Stamps.{above_higher, not_above}

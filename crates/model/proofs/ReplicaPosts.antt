@@ -1,27 +1,25 @@
 -- What a replica posts: a liar's entries ask for nothing, an honest replica's are justified by its card.
 -- The world is that before the entry is posted.
-use Rattle.std.proofs.Common.{◌≡◌, ℕ, ◌+◌, ◌-◌, ◌*◌, ◌<◌, ◌≤◌, Bool, true, false, cond, ◌⊎◌, List, [], ◌∷◌, length, Some, sym, refl, ap, ◌∙◌, subst, inl, inr, arith}
+use Rattle.std.proofs.Common.{◌≡◌, ℕ, ◌+◌, ◌<◌, ◌≤◌, Bool, true, false, List, ◌∷◌, Some, sym, refl, ap, ◌∙◌, subst, arith}
 use mathlib.Core.Path.{subst₃}
 use native.Mathlib.Decide.{ℕ_discrete}
 use borrow.Author.Tests.{clash}
 use Rattle.wire.specs.declared.entry.Entry.{Entry}
-use Rattle.wire.specs.declared.pair.Pair.{Pair}
 use Rattle.wire.specs.declared.text.Text.{Text}
-use Rattle.wire.specs.Entries.{pair_of}
 use Rattle.wire.specs.Sets.{member}
 use Rattle.stores.specs.declared.card.Card.{Card}
 use Rattle.rules.specs.Posts.{pair_entry, ack_entry, stock_entry}
 use Rattle.quorums.specs.Quorums.{Honest}
-use Rattle.histories.specs.Places.{Posted, Somewhere, here, there, Everywhere, done, next}
+use Rattle.histories.specs.Places.{Posted, here, there, done, next}
 use Rattle.histories.specs.Shapes.{stamp_of, ReadEntry, WriteEntry, PairEntry, AckEntry, StockEntry}
-use Rattle.histories.specs.Histories.{Serves, by_pair, by_ack, Served, Stocked, Evidence, Justified, PairRule, AckRule, StockRule}
+use Rattle.histories.specs.Histories.{Serves, by_pair, by_ack, Served, Stocked, Evidence, Justified}
 use Rattle.histories.proofs.Posting.{justified_pair, justified_ack, justified_stock, justified_marked, justified_unruled, Unruled}
 use Rattle.histories.proofs.Rounds.{one_write}
 use Rattle.model.specs.Tables.{is_full}
-use Rattle.model.specs.Halls.{Hall, World}
+use Rattle.model.specs.Halls.{World}
 use Rattle.model.proofs.Cards.{card_later}
 use Rattle.model.proofs.Frames.{history_added, later_card, later_genuine, QuietReplica, QuietClient}
-use Rattle.model.proofs.Invariants.{views, history, stamp_number, issued_as, Genuine, CardRule, AnswerRule, Holds, Later}
+use Rattle.model.proofs.Invariants.{views, history, stamp_number, issued_as, CardRule, AnswerRule, Holds, Later}
 use Rattle.model.proofs.Posts.{posted_in, later_posted, post_keeps}
 use Rattle.model.proofs.Ways.{some_same}
 

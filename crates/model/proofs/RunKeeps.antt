@@ -1,12 +1,12 @@
 -- Every world that a run reaches meets every rule, if no seal is forged.
 -- The texts sealed so far are counted along the run.
-use Rattle.std.proofs.Common.{◌≡◌, ℕ, zero, suc, ◌+◌, ◌<◌, ◌≤◌, ◌⊎◌, List, [], ◌∷◌, Some, None, Option, sym, refl, ap, ◌∙◌, subst, inl, inr, add-one, arith}
+use Rattle.std.proofs.Common.{◌≡◌, ℕ, zero, suc, ◌+◌, ◌<◌, ◌≤◌, List, [], Some, None, Option, sym, refl, subst, add-one, arith}
 use mathlib.Core.List.{Memᴰ}
 use native.Mathlib.Decide.{ℕ_discrete}
 use Rattle.wire.specs.declared.text.Text.{Text}
 use Rattle.model.specs.Halls.{World, Kind}
-use Rattle.model.specs.Calls.{sealed_in, Step}
-use Rattle.model.specs.Runs.{Lawful, Opened, Run, SealedBefore, Unforged}
+use Rattle.model.specs.Calls.{sealed_in}
+use Rattle.model.specs.Runs.{Lawful, Opened, Run, Unforged}
 use Rattle.model.proofs.ClientKeeps.{sealed_with}
 use Rattle.model.proofs.Invariants.{Holds, UnforgedNow}
 use Rattle.model.proofs.Opening.{opened_holds}

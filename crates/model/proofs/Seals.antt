@@ -1,15 +1,14 @@
 -- What checks is known: in a world whose posted seals are not forged, a posted pair or configuration that checks is one that
 -- was sealed, and so is in the log or in the roll.
-use Rattle.std.proofs.Common.{◌≡◌, ℕ, ◌<◌, ◌≤◌, Bool, true, false, ◌&&◌, eqb, List, length, Some, sym, ap, ◌∙◌, ⊎_elim, arith}
+use Rattle.std.proofs.Common.{◌≡◌, ℕ, ◌<◌, ◌≤◌, true, ◌&&◌, eqb, List, length, Some, sym, ap, ◌∙◌, ⊎_elim, arith}
 use Rattle.std.proofs.lemmas.Bool.{or_cases, and_parts, eqb-true}
 use Rattle.wire.specs.declared.pair.Configuration.{Configuration}
 use Rattle.wire.specs.declared.pair.Pair.{Pair}
 use Rattle.wire.specs.declared.text.Text.{Text}
 use Rattle.wire.specs.Entries.{pair_of, configuration_of}
 use Rattle.wire.specs.Texts.{pair_text, configuration_text}
-use Rattle.rules.specs.declared.rules.Rules.{Rules}
 use Rattle.rules.specs.Genuine.{genuine_configuration, opening_pair, first_configuration, same_pair, same_configuration, is_client}
-use Rattle.model.specs.Halls.{Hall, World, operation_of}
+use Rattle.model.specs.Halls.{Hall, World}
 use Rattle.model.specs.Delivering.{entry_of}
 use Rattle.model.specs.Runs.{text_of}
 use Rattle.model.proofs.Invariants.{issued_as, KnownConfiguration, KnownPair, KnownText, Genuine, RollRule, Holds, UnforgedNow}

@@ -1,19 +1,18 @@
 -- Call off, collect, lodge and redeem keep every rule: they change one seat, and nothing that its rule speaks of.
 -- The lemmas speak of the hall that each call leaves.
-use Rattle.std.proofs.Common.{◌≡◌, ℕ, ◌+◌, ◌-◌, ◌<◌, ◌≤◌, Bool, true, false, cond, not, ◌&&◌, eqb, List, length, get_or, set, Option, sym, refl, ap, ◌∙◌, subst, arith, length-set, get_or-set_other, get_or-set_same, eqb-true}
+use Rattle.std.proofs.Common.{◌≡◌, ℕ, ◌-◌, ◌<◌, ◌≤◌, ◌&&◌, eqb, List, length, get_or, set, Option, sym, refl, subst, arith, length-set, get_or-set_other, get_or-set_same, eqb-true}
 use native.Mathlib.Decide.{ℕ_discrete}
 use borrow.Author.Tests.{clash}
 use Rattle.wire.specs.declared.pair.Seal.{Seal}
 use Rattle.wire.specs.declared.text.Text.{Text}
 use Rattle.clients.specs.declared.line.Stage.TheVariants.{Reading, Writing, WritingBack, Over}
-use Rattle.clients.specs.Lines.{is_idle}
 use Rattle.histories.specs.Places.{done}
 use Rattle.halls.specs.declared.seat.Seat.{Seat}
 use Rattle.model.specs.Tables.{places}
-use Rattle.model.specs.Halls.{Hall, World, no_seat, seat_of, operation_of}
+use Rattle.model.specs.Halls.{Hall, World, no_seat, seat_of}
 use Rattle.model.specs.Slips.{freed, holding_slip}
 use Rattle.model.proofs.Frames.{later_seat}
-use Rattle.model.proofs.Invariants.{history, Sized, SeatRule, ReadingRule, SendingRule, OpenRule, OwnRule, Holds}
+use Rattle.model.proofs.Invariants.{history, Sized, SeatRule, SendingRule, OpenRule, Holds}
 use Rattle.model.proofs.Opening.{not_idle}
 use Rattle.model.proofs.Posts.{aside, later_aside, seat_aside, seats_keep}
 use Rattle.model.proofs.Ways.{both}

@@ -1,5 +1,5 @@
 -- The order of stamps is that of numbers, where writers are below 256.
-use Rattle.std.proofs.Common.{◌≡◌, ℕ, ◌<◌, ◌≤◌, Bool, true, false, arith}
+use Rattle.std.proofs.Common.{◌≡◌, ◌<◌, ◌≤◌, true, false, arith}
 use Rattle.std.proofs.lemmas.Bool.Decides.{nat_tests}
 use Rattle.wire.specs.declared.pair.Pair.{Pair}
 use Rattle.wire.specs.Stamps.{above}

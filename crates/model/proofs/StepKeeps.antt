@@ -1,6 +1,6 @@
 -- Every call keeps every rule.
 -- Each lemma tells from a call's definition which hall it leaves, and cites the lemma of that change.
-use Rattle.std.proofs.Common.{◌≡◌, ℕ, ◌+◌, ◌-◌, ◌<◌, ◌≤◌, Bool, true, false, cond, not, ◌&&◌, ◌||◌, eqb, ltb, leb, List, [], ◌∷◌, length, get_or, set, is_some, Some, None, Ok, Err, Option, Result, sym, refl, ap, ◌∙◌, subst, arith, ltb-true, ne_eqb, eqb-true, leb-true}
+use Rattle.std.proofs.Common.{◌≡◌, ℕ, ◌+◌, ◌-◌, ◌<◌, ◌≤◌, Bool, true, false, cond, not, ◌&&◌, ◌||◌, eqb, ltb, leb, List, ◌∷◌, length, set, is_some, Some, None, Ok, Err, Option, Result, sym, refl, ap, ◌∙◌, subst, arith, ltb-true, ne_eqb, leb-true}
 use borrow.Author.Tests.{clash, eqb-false}
 use Rattle.kinds.specs.declared.word.Word.{Word}
 use Rattle.wire.specs.declared.entry.Entry.{Entry}
@@ -14,18 +14,16 @@ use Rattle.wire.specs.declared.set.ReplicaSet.{ReplicaSet}
 use Rattle.wire.specs.declared.text.Text.{Text}
 use Rattle.wire.specs.Entries.{kind_of}
 use Rattle.wire.specs.Sets.{member}
-use Rattle.wire.specs.Texts.{pair_text, configuration_text}
+use Rattle.wire.specs.Texts.{pair_text}
 use Rattle.clients.specs.declared.line.Line.{Line}
 use Rattle.clients.specs.declared.line.Stage.{Stage}
 use Rattle.clients.specs.declared.line.Stage.TheVariants.{Idle, Reading, Writing, WritingBack, Over}
 use Rattle.clients.specs.Lines.{is_idle}
-use Rattle.clients.specs.Steps.{begun, reading_next}
 use Rattle.clients.specs.Steps.{Stepped as Client-stepped}
 use Rattle.replicas.specs.Steps.{Stepped as Replica-stepped}
-use Rattle.source.specs.Issued.{issued, signing, next_text}
-use Rattle.quorums.specs.Quorums.{Honest}
+use Rattle.source.specs.Issued.{signing, next_text}
 use Rattle.model.specs.Tables.{is_full}
-use Rattle.model.specs.Halls.{Hall, World, Kind, no_seat, seat_of, has_its_tables, party_in, with_seat, with_store}
+use Rattle.model.specs.Halls.{Hall, World, Kind, seat_of, has_its_tables, party_in, with_seat, with_store}
 use Rattle.halls.specs.declared.fault.HallFault.{HallFault}
 use Rattle.sealers.specs.Sealing.{spent}
 use Rattle.model.specs.Answers.{Answer, Outcome, refuses, has_moment}
@@ -37,16 +35,16 @@ use Rattle.model.specs.Delivering.{posting, by_replica, by_client, client_moves,
 use Rattle.model.specs.Issuing.{issue_called, issue_done, issuing, is_right_set, has_too_many_marked}
 use Rattle.model.specs.Meddling.{meddle_called, meddle_by, sent_by}
 use Rattle.model.specs.Slips.{call_off_called, collect_called, collecting, lodge_called, redeem_called, redeeming, is_its_slip, freed, holding_slip}
-use Rattle.model.proofs.Invariants.{views, Holds, UnforgedNow}
+use Rattle.model.proofs.Invariants.{Holds, UnforgedNow}
 use Rattle.model.proofs.BeginKeeps.{begin_keeps}
-use Rattle.model.proofs.ClientKeeps.{client_keeps, client_world, sealed_with}
+use Rattle.model.proofs.ClientKeeps.{client_keeps, sealed_with}
 use Rattle.model.proofs.IssueKeeps.{issue_keeps}
 use Rattle.model.proofs.Parties.{ReplicaIn, client_in, replica_in}
-use Rattle.model.proofs.Posts.{open_keeps, posted_in}
+use Rattle.model.proofs.Posts.{open_keeps}
 use Rattle.model.proofs.ReplicaKeeps.{replica_keeps, replica_world}
 use Rattle.model.proofs.ReplicaPosts.{replica_posts}
 use Rattle.model.proofs.SlipKeeps.{one_seat_keeps, freed_rule, lodged_rule, seat_same}
-use Rattle.model.proofs.Ways.{way, way_in, both, neither, not_both, not-true, not-false}
+use Rattle.model.proofs.Ways.{way, way_in, both, neither, not_both, not-false}
 
 -- the world with another hall
 abbrev pub in_hall : World → Hall → World

@@ -1,27 +1,25 @@
 -- Where in a run each operation of the log began and ended.
 -- By the events of the calls, along the positions of the run.
-use Rattle.std.proofs.Common.{◌≡◌, ℕ, zero, suc, ◌+◌, ◌-◌, ◌<◌, ◌≤◌, Bool, true, false, cond, not, ◌&&◌, eqb, leb, ◌⊎◌, List, length, is_some, Some, None, Option, sym, refl, ap, ◌∙◌, subst, inl, inr, add-one, arith, eq-eqb, eqb-true, le-leb, leb-true}
+use Rattle.std.proofs.Common.{◌≡◌, ℕ, zero, suc, ◌+◌, ◌<◌, ◌≤◌, true, not, ◌&&◌, eqb, leb, ◌⊎◌, length, is_some, Some, None, Option, sym, refl, ap, ◌∙◌, subst, inl, inr, add-one, arith, eq-eqb, eqb-true, le-leb, leb-true}
 use native.Mathlib.Decide.{ℕ_discrete, dec_lt}
 use borrow.Author.Tests.{clash}
 use Rattle.kinds.specs.declared.word.Word.{Word}
 use Rattle.wire.specs.declared.pair.Pair.{Pair}
-use Rattle.wire.specs.declared.text.Text.{Text}
 use Rattle.clients.specs.declared.line.Stage.{Stage}
 use Rattle.clients.specs.declared.line.Stage.TheVariants.{Idle, Reading, Writing, WritingBack, Over}
 use Rattle.clients.specs.Lines.{is_idle}
 use Rattle.model.specs.Halls.{Hall, World, Kind, seat_of, operation_of, has_its_tables}
-use Rattle.model.specs.Answers.{Answer, done, slip, pair, refused, Outcome}
+use Rattle.model.specs.Answers.{Answer, slip, Outcome}
 use Rattle.model.specs.Beginning.{new_operation, word_or_none}
-use Rattle.model.specs.Calls.{Call, begin_read, begin_write}
 use Rattle.model.specs.Delivering.{is_over}
-use Rattle.model.specs.Order.{Operation, a_read, a_write, Ended, Finished, Writes, collects, value_answered, value_written}
+use Rattle.model.specs.Order.{Operation, a_read, a_write, Ended, collects, value_answered}
 use Rattle.model.specs.Runs.{Lawful, Opened, Run, Unforged}
-use Rattle.model.specs.Slips.{collect_called, collecting, is_its_slip}
+use Rattle.model.specs.Slips.{collecting, is_its_slip}
 use Rattle.model.proofs.Events.{Event, nothing, begins, ends, BegunLog, EndedLog, BeginCall, by_read, by_write, begins_slip, slips, event_of}
 use Rattle.model.proofs.Growing.{Grows, grows_same, grows_trans, event_grows, ended_logged}
 use Rattle.model.proofs.Invariants.{KnownPair, the_opening, a_write as of-a-write, Holds}
 use Rattle.model.proofs.RunKeeps.{sealed_at, holds_at}
-use Rattle.model.proofs.Ways.{way, way_in, both, not-false, some_same, not_some}
+use Rattle.model.proofs.Ways.{way_in, both, not-false, not_some}
 
 -- a begin and its slip tell client and place
 slip_same : {V : Type 0} {c d k j : ℕ} → ◌≡◌ {A = Answer V} (slip c k) (slip d j) → (c ≡ d) × (k ≡ j)

@@ -1,5 +1,5 @@
 -- What the calls of a hall answer, and the hall that they leave.
-use Rattle.std.specs.Prelude.{ℕ, ◌+◌, Bool, true, false, cond, nat_lt}
+use Rattle.std.specs.Prelude.{ℕ, Bool, cond, nat_lt}
 use Rattle.wire.specs.declared.pair.Pair.{Pair}
 use Rattle.halls.specs.declared.fault.HallFault.{HallFault}
 use Rattle.halls.specs.declared.fault.HallFault.TheVariants.{WrongTables}

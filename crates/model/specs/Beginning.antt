@@ -1,5 +1,5 @@
 -- Begin: a client starts to read, or to write a value.
-use Rattle.std.specs.Prelude.{ℕ, ◌+◌, Bool, true, false, cond, not, ◌||◌, ltb, length, is_some, Some, None, Ok, Err, Option, Result}
+use Rattle.std.specs.Prelude.{ℕ, ◌+◌, cond, not, ◌||◌, length, is_some, Some, None, Ok, Err, Option, Result}
 use Rattle.kinds.specs.declared.word.Word.{Word}
 use Rattle.wire.specs.declared.entry.Entry.{Entry}
 use Rattle.wire.specs.declared.party.Client.{Client}

@@ -1,16 +1,13 @@
 -- The nine calls of a hall, what each of them answers and leaves, and which text it has sealed.
-use Rattle.std.specs.Prelude.{◌≡◌, ℕ, Bool, true, false, cond, length, Some, None, Option}
+use Rattle.std.specs.Prelude.{◌≡◌, ℕ, Bool, true, cond, Some, None, Option}
 use Rattle.wire.specs.declared.entry.Entry.{Entry}
 use Rattle.wire.specs.declared.pair.Seal.{Seal}
-use Rattle.wire.specs.declared.party.Client.{Client}
-use Rattle.wire.specs.declared.party.Party.{Party}
-use Rattle.wire.specs.declared.party.Party.TheVariants.{Source as The-source, Client as A-client, Replica as A-replica}
 use Rattle.wire.specs.declared.set.ReplicaSet.{ReplicaSet}
 use Rattle.wire.specs.declared.text.Text.{Text}
 use Rattle.wire.specs.Texts.{pair_text}
 use Rattle.clients.specs.declared.line.Line.{Line}
 use Rattle.source.specs.Issued.{next_text}
-use Rattle.model.specs.Halls.{Hall, World, Kind, seat_of, party_in}
+use Rattle.model.specs.Halls.{World, Kind, seat_of}
 use Rattle.model.specs.Answers.{Answer, done, slip, pair, refused, Outcome}
 use Rattle.model.specs.Issuing.{issue_called}
 use Rattle.model.specs.Beginning.{begin_called}

@@ -1,14 +1,12 @@
 -- Deliver: an entry of the post is handed to a party, which makes its step.
-use Rattle.std.specs.Prelude.{ℕ, ◌+◌, Bool, true, false, cond, not, ◌&&◌, ◌||◌, List, length, Some, None, Ok, Err, Option, Result, ◌==◌, nat_le, nat_lt, slice_index_or, slice_set}
+use Rattle.std.specs.Prelude.{ℕ, ◌+◌, Bool, true, false, cond, not, ◌&&◌, ◌||◌, length, Some, None, Ok, Err, Option, Result, ◌==◌, nat_le, nat_lt, slice_index_or, slice_set}
 use Rattle.wire.specs.declared.entry.Entry.{Entry}
 use Rattle.wire.specs.declared.entry.EntryKind.{EntryKind}
 use Rattle.wire.specs.declared.entry.EntryKind.TheVariants.{Read, Write, Transfer, Pair as A-pair, Ack, Stock, Config, Behind}
-use Rattle.wire.specs.declared.pair.Seal.{Seal}
 use Rattle.wire.specs.declared.party.Client.{Client}
 use Rattle.wire.specs.declared.party.Party.{Party}
 use Rattle.wire.specs.declared.party.Party.TheVariants.{Source as The-source, Client as A-client, Replica as A-replica}
 use Rattle.wire.specs.declared.party.Replica.{Replica}
-use Rattle.wire.specs.declared.text.Text.{Text}
 use Rattle.wire.specs.Entries.{kind_of}
 use Rattle.stores.specs.declared.card.Card.{Card}
 use Rattle.stores.specs.declared.store.Saves.{Saves}

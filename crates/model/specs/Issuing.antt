@@ -1,16 +1,12 @@
 -- Issue: the source seals and posts the next configuration.
-use Rattle.std.specs.Prelude.{◌≡◌, ℕ, ◌+◌, ◌*◌, ◌/◌, ◌^◌, Bool, cond, not, ◌&&◌, ◌||◌, Some, None, Ok, Err, Option, Result, ◌==◌, bit_and, count_ones, nat_le}
+use Rattle.std.specs.Prelude.{ℕ, ◌+◌, ◌*◌, ◌/◌, ◌^◌, Bool, cond, not, ◌&&◌, ◌||◌, Ok, Err, Result, ◌==◌, bit_and, count_ones, nat_le}
 use Rattle.wire.specs.declared.pair.Configuration.{Configuration}
-use Rattle.wire.specs.declared.pair.Seal.{Seal}
 use Rattle.wire.specs.declared.set.ReplicaSet.{ReplicaSet}
-use Rattle.wire.specs.declared.text.Text.{Text}
-use Rattle.wire.specs.Texts.{configuration_text}
 use Rattle.rules.specs.declared.rules.Rules.{Rules}
 use Rattle.rules.specs.Posts.{config_entry}
 use Rattle.source.specs.declared.fault.SourceFault.{SourceFault}
 use Rattle.source.specs.declared.state.Source.{Source}
 use Rattle.source.specs.Issued.{Issued, issued}
-use Rattle.halls.specs.declared.fault.HallFault.{HallFault}
 use Rattle.halls.specs.declared.fault.HallFault.TheVariants.{WrongSet, TooManyMarked, Full, Source as Of-source}
 use Rattle.model.specs.Tables.{is_full, added}
 use Rattle.model.specs.Halls.{Hall, World, with_post, with_seals, with_source}

@@ -1,5 +1,5 @@
 -- Meddle: any entry is posted in the name of a marked replica.
-use Rattle.std.specs.Prelude.{ℕ, Bool, true, false, cond, not, Some, None, Option}
+use Rattle.std.specs.Prelude.{ℕ, cond, not, Some, None, Option}
 use Rattle.wire.specs.declared.entry.Entry.{Entry}
 use Rattle.wire.specs.declared.party.Party.{Party}
 use Rattle.wire.specs.declared.party.Party.TheVariants.{Source as The-source, Client as A-client, Replica as A-replica}

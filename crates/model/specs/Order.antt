@@ -1,6 +1,6 @@
 -- One order: all finished operations of a run, with some unfinished writes, stand in one list that keeps real time,
 -- and each read gives what the last write before it wrote.
-use Rattle.std.specs.Prelude.{◌≡◌, ℕ, ◌+◌, ◌<◌, Bool, true, false, ◌⊎◌, List, [], ◌∷◌, ◌++◌, Some, None, Option}
+use Rattle.std.specs.Prelude.{◌≡◌, ℕ, ◌+◌, ◌<◌, ◌⊎◌, List, [], ◌∷◌, ◌++◌, Some, None, Option}
 use Rattle.orders.specs.Order.{◌∈◌, Distinct}
 use Rattle.model.specs.Halls.{World, Kind}
 use Rattle.model.specs.Answers.{Answer, done, slip, pair, refused}

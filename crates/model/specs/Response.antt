@@ -1,11 +1,10 @@
 -- Response: once enough honest replicas' answers to an open round were handed to its client, the round is over.
-use Rattle.std.specs.Prelude.{◌≡◌, ℕ, ◌+◌, ◌*◌, ◌<◌, ◌≤◌, Bool, true, false, ◌⊎◌, length, Some, None, Option, ◌≢◌, count_ones}
-use Rattle.wire.specs.declared.entry.Entry.{Entry}
+use Rattle.std.specs.Prelude.{◌≡◌, ℕ, ◌+◌, ◌*◌, ◌<◌, ◌≤◌, true, false, ◌⊎◌, length, None, ◌≢◌, count_ones}
 use Rattle.wire.specs.Sets.{member}
 use Rattle.model.specs.Tables.{is_full}
 use Rattle.model.specs.Halls.{World, Kind}
 use Rattle.model.specs.Answers.{done}
-use Rattle.model.specs.Calls.{Call, deliver, call_off}
+use Rattle.model.specs.Calls.{deliver, call_off}
 use Rattle.model.specs.Delivering.{entry_of}
 use Rattle.model.specs.Runs.{Run}
 use Rattle.model.specs.Order.{collects, Operation}

@@ -1,9 +1,8 @@
 -- Call off, collect, lodge and redeem: what becomes of an operation's slip.
-use Rattle.std.specs.Prelude.{ℕ, Bool, true, false, cond, not, ◌&&◌, Some, None, Option, ◌==◌, nat_le}
+use Rattle.std.specs.Prelude.{ℕ, Bool, cond, not, ◌&&◌, Some, None, Option, ◌==◌, nat_le}
 use Rattle.kinds.specs.declared.fault.KindFault.TheVariants.{NoValue}
 use Rattle.wire.specs.declared.pair.Pair.{Pair}
 use Rattle.clients.specs.declared.line.Line.{Line}
-use Rattle.clients.specs.declared.line.Stage.{Stage}
 use Rattle.clients.specs.declared.line.Stage.TheVariants.{Idle}
 use Rattle.clients.specs.Lines.{is_idle}
 use Rattle.halls.specs.declared.fault.HallFault.TheVariants.{NotItsSlip, NotNow, Kind as Of-kind}
