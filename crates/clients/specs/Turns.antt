@@ -4,7 +4,7 @@ use Rattle.std.specs.Prelude.{ℕ, ◌+◌, max, Bool, cond, not, ◌&&◌, Some
 use Rattle.kinds.specs.declared.word.Word.{Word}
 use Rattle.wire.specs.declared.entry.Entry.{Entry}
 use Rattle.wire.specs.declared.entry.EntryKind.{EntryKind}
-use Rattle.wire.specs.declared.entry.EntryKind.TheVariants.{Read, Write, Transfer, Pair as A-pair, Ack, Stock, Config, Behind}
+use Rattle.wire.specs.declared.entry.EntryKind.TheVariants.{Read, Write, Transfer, Pair as APair, Ack, Stock, Config, Behind}
 use Rattle.wire.specs.declared.pair.Pair.{Pair}
 use Rattle.wire.specs.declared.party.Client.{Client}
 use Rattle.wire.specs.declared.party.Replica.{Replica}
@@ -127,7 +127,7 @@ decided_by_kind None rules client line e genuine = Err NotAwaited
 decided_by_kind (Some Read) rules client line e genuine = Err NotAwaited
 decided_by_kind (Some Write) rules client line e genuine = Err NotAwaited
 decided_by_kind (Some Transfer) rules client line e genuine = Err NotAwaited
-decided_by_kind (Some A-pair) rules client line e genuine = on_pair rules client line e genuine
+decided_by_kind (Some APair) rules client line e genuine = on_pair rules client line e genuine
 decided_by_kind (Some Ack) rules client line e genuine = on_ack rules line e
 decided_by_kind (Some Stock) rules client line e genuine = Err NotAwaited
 decided_by_kind (Some Config) rules client line e genuine = on_config client line e genuine

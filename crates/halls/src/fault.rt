@@ -2,7 +2,7 @@
 ghost use Rattle.std.specs.Prelude.{◌≡◌};
 ghost use Rattle.halls.specs.Faults.{hall_refusal, step_refusal};
 ghost use Rattle.halls.specs.declared.fault.HallFault.TheVariants.{Client, Kind, Source, Store};
-ghost use Rattle.halls.specs.declared.fault.StepFault.TheVariants.{Client as A-client, Replica as A-replica};
+ghost use Rattle.halls.specs.declared.fault.StepFault.TheVariants.{Client as AClient, Replica as AReplica};
 
 use clients::ClientFault;
 use kinds::KindFault;
@@ -50,7 +50,7 @@ pub enum HallFault {
 }
 
 impl From<ClientFault> for StepFault {
-    ghost from_gives = { λ e r. r ≡ A-client e };
+    ghost from_gives = { λ e r. r ≡ AClient e };
 
     fn from(fault: ClientFault) -> StepFault {
         StepFault::Client(fault)
@@ -58,7 +58,7 @@ impl From<ClientFault> for StepFault {
 }
 
 impl From<ReplicaFault> for StepFault {
-    ghost from_gives = { λ e r. r ≡ A-replica e };
+    ghost from_gives = { λ e r. r ≡ AReplica e };
 
     fn from(fault: ReplicaFault) -> StepFault {
         StepFault::Replica(fault)

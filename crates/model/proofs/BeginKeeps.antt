@@ -44,19 +44,19 @@ abbrev pub begin_seat : World → ℕ → Option Word → Seat
 begin_seat w c word = record { line = reading_next (seat_of w.hall c).line word; operation = length w.hall.log.list; lodged = (seat_of w.hall c).lodged }
 
 abbrev pub begin_world : World → Client → Option Word → ℕ → (Text → Seal) → World
-begin_world w client word open-place given = record {
+begin_world w client word open_place given = record {
   hall = with_log
       (with_seat (with_post w.hall (added w.hall.post (read_of client (reading_next (seat_of w.hall client.number).line word)))) client.number (begin_seat w client.number word))
       (added w.hall.log (new_operation client.number word (w.hall.moment + 1)))
       (w.hall.moment + 1);
-  next = open-place;
+  next = open_place;
   genuine = w.genuine;
   given = given;
 }
 
-module _ (kind : ℕ) (sealed : List Text) (w : World) (holds : Holds kind sealed w) (client : Client) (word : Option Word) (open-place : ℕ) (given : Text → Seal)
+module _ (kind : ℕ) (sealed : List Text) (w : World) (holds : Holds kind sealed w) (client : Client) (word : Option Word) (open_place : ℕ) (given : Text → Seal)
     (low : 1 ≤ client.number) (high : client.number ≤ w.hall.rules.clients)
-    (log-room : is_full w.hall.log ≡ false) (post-room : is_full w.hall.post ≡ false)
+    (log_room : is_full w.hall.log ≡ false) (post_room : is_full w.hall.post ≡ false)
     (seal : is_some word ≡ true → 0 < w.hall.seals client.number) where
   op : Operation
   op = new_operation client.number word (w.hall.moment + 1)
@@ -65,10 +65,10 @@ module _ (kind : ℕ) (sealed : List Text) (w : World) (holds : Holds kind seale
   read = read_of client (reading_next (seat_of w.hall client.number).line word)
 
   -- operations of the log with one more behind it
-  old_op : (k : ℕ) → k < length w.hall.log.list → operation_of (begin_world w client word open-place given).hall k ≡ operation_of w.hall k
+  old_op : (k : ℕ) → k < length w.hall.log.list → operation_of (begin_world w client word open_place given).hall k ≡ operation_of w.hall k
   old_op k lt = before_end w.hall.log.list (new_operation client.number word (w.hall.moment + 1)) no_operation k lt
 
-  new_op : operation_of (begin_world w client word open-place given).hall (length w.hall.log.list) ≡ new_operation client.number word (w.hall.moment + 1)
+  new_op : operation_of (begin_world w client word open_place given).hall (length w.hall.log.list) ≡ new_operation client.number word (w.hall.moment + 1)
   new_op = at_end w.hall.log.list (new_operation client.number word (w.hall.moment + 1)) no_operation
 
   data Place (k : ℕ) : Type 0 where
@@ -84,27 +84,27 @@ module _ (kind : ℕ) (sealed : List Text) (w : World) (holds : Holds kind seale
       by_order (no nl) (yes gt) = none_there gt
       by_order (no nl) (no ng) = new_one (omega arith)
 
-  past_op : (k : ℕ) → length w.hall.log.list < k → operation_of (begin_world w client word open-place given).hall k ≡ no_operation
+  past_op : (k : ℕ) → length w.hall.log.list < k → operation_of (begin_world w client word open_place given).hall k ≡ no_operation
   past_op k gt = get_or_past (w.hall.log.list ++ (new_operation client.number word (w.hall.moment + 1) ∷ [])) k no_operation (simp length-append (omega arith))
 
   -- what has ended or is stamped is old
-  ended_old : (k : ℕ) → 0 < (operation_of (begin_world w client word open-place given).hall k).ended → k < length w.hall.log.list
+  ended_old : (k : ℕ) → 0 < (operation_of (begin_world w client word open_place given).hall k).ended → k < length w.hall.log.list
   ended_old k o = by_place (place_of k)
     where
       by_place : Place k → k < length w.hall.log.list
       by_place (old_one lt) = lt
-      by_place (new_one e) = absurd (omega (arith, o, ap (λ z. z.ended) (subst (λ m. operation_of (begin_world w client word open-place given).hall m ≡ new_operation client.number word (w.hall.moment + 1)) e new_op)))
+      by_place (new_one e) = absurd (omega (arith, o, ap (λ z. z.ended) (subst (λ m. operation_of (begin_world w client word open_place given).hall m ≡ new_operation client.number word (w.hall.moment + 1)) e new_op)))
       by_place (none_there gt) = absurd (omega (arith, o, ap (λ z. z.ended) (past_op k gt)))
 
-  stamped_old : (k : ℕ) → StampedWrite (begin_world w client word open-place given).hall k → StampedWrite w.hall k
+  stamped_old : (k : ℕ) → StampedWrite (begin_world w client word open_place given).hall k → StampedWrite w.hall k
   stamped_old k s = by_place (place_of k)
     where
       by_place : Place k → StampedWrite w.hall k
       by_place (old_one lt) = record { logged = lt; writes = sym (ap (λ z. z.writes) (old_op k lt)) ∙ s.writes; stamped = rw (old_op k lt) at s.stamped }
-      by_place (new_one e) = absurd (omega (arith, s.stamped, ap (λ z. z.pair.stamp.count) (subst (λ m. operation_of (begin_world w client word open-place given).hall m ≡ new_operation client.number word (w.hall.moment + 1)) e new_op)))
+      by_place (new_one e) = absurd (omega (arith, s.stamped, ap (λ z. z.pair.stamp.count) (subst (λ m. operation_of (begin_world w client word open_place given).hall m ≡ new_operation client.number word (w.hall.moment + 1)) e new_op)))
       by_place (none_there gt) = absurd (omega (arith, s.stamped, ap (λ z. z.pair.stamp.count) (past_op k gt)))
 
-  later_begun : Later w (begin_world w client word open-place given)
+  later_begun : Later w (begin_world w client word open_place given)
   unfolding history read
   later_begun = record {
     rules = refl;
@@ -134,7 +134,7 @@ module _ (kind : ℕ) (sealed : List Text) (w : World) (holds : Holds kind seale
           by_place (new_one e) = absurd (omega (arith, o, ap (λ z. z.ended) (get_or_past w.hall.log.list k no_operation (omega arith))))
           by_place (none_there gt) = absurd (omega (arith, o, ap (λ z. z.ended) (get_or_past w.hall.log.list k no_operation (omega arith))))
 
-  log_begun : LogRule (begin_world w client word open-place given)
+  log_begun : LogRule (begin_world w client word open_place given)
   unfolding later_begun history
   log_begun = record {
     moments = moments;
@@ -149,13 +149,13 @@ module _ (kind : ℕ) (sealed : List Text) (w : World) (holds : Holds kind seale
       moments : w.hall.moment + 1 ≡ length (w.hall.log.list ++ (new_operation client.number word (w.hall.moment + 1) ∷ [])) + ends (w.hall.log.list ++ (new_operation client.number word (w.hall.moment + 1) ∷ []))
       moments = rw (ends_begun w.hall.log.list (new_operation client.number word (w.hall.moment + 1)) refl) (simp length-append (omega (arith, holds.log.moments)))
 
-      number : (k : ℕ) → k < length w.hall.log.list → stamp_number (operation_of (begin_world w client word open-place given).hall k).pair ≡ stamp_number (operation_of w.hall k).pair
+      number : (k : ℕ) → k < length w.hall.log.list → stamp_number (operation_of (begin_world w client word open_place given).hall k).pair ≡ stamp_number (operation_of w.hall k).pair
       number k lt = ap (λ z. stamp_number z.pair) (old_op k lt)
 
-      over : (j k : ℕ) → k < length w.hall.log.list → OverBefore (begin_world w client word open-place given).hall j k → OverBefore w.hall j k
+      over : (j k : ℕ) → k < length w.hall.log.list → OverBefore (begin_world w client word open_place given).hall j k → OverBefore w.hall j k
       over j k lk o = let lj = ended_old j o.over in record { logged = lj; over = rw (old_op j lj) at o.over; before = rw (old_op j lj, old_op k lk) at o.before }
 
-      new_rule : OperationRule (begin_world w client word open-place given) (length w.hall.log.list)
+      new_rule : OperationRule (begin_world w client word open_place given) (length w.hall.log.list)
       new_rule = record {
         client_low = rw new_op low;
         client_high = rw new_op high;
@@ -170,16 +170,16 @@ module _ (kind : ℕ) (sealed : List Text) (w : World) (holds : Holds kind seale
         low = rw new_op (λ y. omega arith);
       }
 
-      each : (k : ℕ) → k < length (begin_world w client word open-place given).hall.log.list → Place k → OperationRule (begin_world w client word open-place given) k
-      each k lt (old_one o) = operation_later w (begin_world w client word open-place given) later_begun k o later_begun.moment (old_op k o) (holds.log.each k o)
-      each k lt (new_one e) = subst (λ m. OperationRule (begin_world w client word open-place given) m) e new_rule
+      each : (k : ℕ) → k < length (begin_world w client word open_place given).hall.log.list → Place k → OperationRule (begin_world w client word open_place given) k
+      each k lt (old_one o) = operation_later w (begin_world w client word open_place given) later_begun k o later_begun.moment (old_op k o) (holds.log.each k o)
+      each k lt (new_one e) = subst (λ m. OperationRule (begin_world w client word open_place given) m) e new_rule
       each k lt (none_there gt) = absurd (omega (arith, gt, simp length-append at lt))
 
-      rising : (j k : ℕ) → j < k → k < length (begin_world w client word open-place given).hall.log.list → Place k
-          → (operation_of (begin_world w client word open-place given).hall j).began < (operation_of (begin_world w client word open-place given).hall k).began
+      rising : (j k : ℕ) → j < k → k < length (begin_world w client word open_place given).hall.log.list → Place k
+          → (operation_of (begin_world w client word open_place given).hall j).began < (operation_of (begin_world w client word open_place given).hall k).began
       rising j k lt lk (old_one o) = rw (old_op j (omega arith), old_op k o) (holds.log.rising j k lt o)
       rising j k lt lk (new_one e) =
-          subst (λ m. (operation_of (begin_world w client word open-place given).hall j).began < (operation_of (begin_world w client word open-place given).hall m).began) e
+          subst (λ m. (operation_of (begin_world w client word open_place given).hall j).began < (operation_of (begin_world w client word open_place given).hall m).began) e
           (let lj : j < length w.hall.log.list = omega arith in rw (new_op, old_op j lj) (omega (arith, (holds.log.each j lj).began_by)))
       rising j k lt lk (none_there gt) = absurd (omega (arith, gt, simp length-append at lk))
 
@@ -197,7 +197,7 @@ module _ (kind : ℕ) (sealed : List Text) (w : World) (holds : Holds kind seale
       wrong e = omega arith
   write_rounds (there s) = omega (arith, (holds.seats client.number low high).writes s)
 
-  seat_begun : SeatRule kind (begin_world w client word open-place given) client.number (begin_seat w client.number word)
+  seat_begun : SeatRule kind (begin_world w client word open_place given) client.number (begin_seat w client.number word)
   unfolding later_begun history read
   seat_begun = record {
     configuration = later_configuration later_begun _ mine.configuration;
@@ -232,11 +232,11 @@ module _ (kind : ℕ) (sealed : List Text) (w : World) (holds : Holds kind seale
       mine : SeatRule kind w client.number (seat_of w.hall client.number)
       mine = holds.seats client.number low high
 
-      before : (k : ℕ) → OverBefore (begin_world w client word open-place given).hall k (length w.hall.log.list)
-          → SettledSomewhere (views w.hall) (history w.hall) (stamp_number (operation_of (begin_world w client word open-place given).hall k).pair)
+      before : (k : ℕ) → OverBefore (begin_world w client word open_place given).hall k (length w.hall.log.list)
+          → SettledSomewhere (views w.hall) (history w.hall) (stamp_number (operation_of (begin_world w client word open_place given).hall k).pair)
       before k o = let lk = ended_old k o.over in rw (old_op k lk) ((holds.log.each k lk).settled (rw (old_op k lk) at o.over))
 
-      reading : ReadingRule kind (begin_world w client word open-place given) client.number (begin_seat w client.number word)
+      reading : ReadingRule kind (begin_world w client word open_place given) client.number (begin_seat w client.number word)
       reading = record {
         newer = [];
         read = read_of client (reading_next (seat_of w.hall client.number).line word);
@@ -252,27 +252,27 @@ module _ (kind : ℕ) (sealed : List Text) (w : World) (holds : Holds kind seale
         seal_left = λ y. seal (sym (ap (λ z. z.writes) new_op) ∙ y);
       }
 
-  pub begin_keeps : Holds kind sealed (begin_world w client word open-place given)
+  pub begin_keeps : Holds kind sealed (begin_world w client word open_place given)
   unfolding later_begun history read
   begin_keeps = record {
     sized = let s = holds.sized in record {
       tables = ap (λ p. (eqb p w.hall.lengths.post && eqb (places (added w.hall.log (new_operation client.number word (w.hall.moment + 1)))) w.hall.lengths.log)
-          && (eqb (places w.hall.roll) w.hall.lengths.roll && eqb (length (set w.hall.seats (client.number - 1) (begin_seat w client.number word))) w.hall.rules.clients)) (places_added w.hall.post read post-room)
+          && (eqb (places w.hall.roll) w.hall.lengths.roll && eqb (length (set w.hall.seats (client.number - 1) (begin_seat w client.number word))) w.hall.rules.clients)) (places_added w.hall.post read post_room)
           ∙ ap (λ p. (eqb (places w.hall.post) w.hall.lengths.post && eqb p w.hall.lengths.log)
-          && (eqb (places w.hall.roll) w.hall.lengths.roll && eqb (length (set w.hall.seats (client.number - 1) (begin_seat w client.number word))) w.hall.rules.clients)) (places_added w.hall.log (new_operation client.number word (w.hall.moment + 1)) log-room)
+          && (eqb (places w.hall.roll) w.hall.lengths.roll && eqb (length (set w.hall.seats (client.number - 1) (begin_seat w client.number word))) w.hall.rules.clients)) (places_added w.hall.log (new_operation client.number word (w.hall.moment + 1)) log_room)
           ∙ ap (λ p. (eqb (places w.hall.post) w.hall.lengths.post && eqb (places w.hall.log) w.hall.lengths.log)
           && (eqb (places w.hall.roll) w.hall.lengths.roll && eqb p w.hall.rules.clients)) (length-set w.hall.seats (client.number - 1) (begin_seat w client.number word))
           ∙ s.tables;
       faults = s.faults;
       replicas = s.replicas;
       clients = s.clients;
-      post_limit = rw (places_added w.hall.post read post-room) s.post_limit;
-      log_limit = rw (places_added w.hall.log (new_operation client.number word (w.hall.moment + 1)) log-room) s.log_limit;
+      post_limit = rw (places_added w.hall.post read post_room) s.post_limit;
+      log_limit = rw (places_added w.hall.log (new_operation client.number word (w.hall.moment + 1)) log_room) s.log_limit;
     };
     roll = let r = holds.roll in record { sound = r.sound; some = r.some; first = r.first; epochs = r.epochs; source = r.source };
     good = subst (λ h. Good (views w.hall) h) (sym (history_added w.hall read))
         (next (justified_read shape (record { reads = λ p. fresh ((holds.seats client.number low high).reads p); writes = λ p. fresh ((holds.seats client.number low high).writes p) })) holds.good);
-    answers = answers_posted kind w (begin_world w client word open-place given) read later_begun refl (no_answer kind _ _ (λ e. omega arith) (λ e. omega arith)) holds.answers;
+    answers = answers_posted kind w (begin_world w client word open_place given) read later_begun refl (no_answer kind _ _ (λ e. omega arith) (λ e. omega arith)) holds.answers;
     cards = λ q lt. let mine = holds.cards q lt in record {
       card = mine.card;
       kept = mine.kept;
@@ -290,19 +290,19 @@ module _ (kind : ℕ) (sealed : List Text) (w : World) (holds : Holds kind seale
       fresh le = omega arith
 
       by_client : (d : ℕ) → 1 ≤ d → d ≤ w.hall.rules.clients → Dec (d ≡ client.number)
-          → SeatRule kind (begin_world w client word open-place given) d (get_or (set w.hall.seats (client.number - 1) (begin_seat w client.number word)) (d - 1) no_seat)
+          → SeatRule kind (begin_world w client word open_place given) d (get_or (set w.hall.seats (client.number - 1) (begin_seat w client.number word)) (d - 1) no_seat)
       by_client d low' high' (yes e) =
-          subst (λ z. SeatRule kind (begin_world w client word open-place given) z (get_or (set w.hall.seats (client.number - 1) (begin_seat w client.number word)) (z - 1) no_seat)) (sym e)
-          (subst (λ s. SeatRule kind (begin_world w client word open-place given) client.number s) (sym (seat_same w.hall client.number (begin_seat w client.number word) holds.sized low high)) seat_begun)
+          subst (λ z. SeatRule kind (begin_world w client word open_place given) z (get_or (set w.hall.seats (client.number - 1) (begin_seat w client.number word)) (z - 1) no_seat)) (sym e)
+          (subst (λ s. SeatRule kind (begin_world w client word open_place given) client.number s) (sym (seat_same w.hall client.number (begin_seat w client.number word) holds.sized low high)) seat_begun)
       by_client d low' high' (no ne) =
           let s = holds.seats d low' high' in
-          subst (λ z. SeatRule kind (begin_world w client word open-place given) d z) (sym (seat_other w.hall client.number d (begin_seat w client.number word) low low' ne))
+          subst (λ z. SeatRule kind (begin_world w client word open_place given) d z) (sym (seat_other w.hall client.number d (begin_seat w client.number word) low low' ne))
           (later_seat kind d (seat_of w.hall d) later_begun (next (record { not_read = λ e k. ne (sym e); not_write = λ e k. ne (sym e) }) done)
           (λ busy. old_op _ (s.own busy).logged) (λ busy. seats_begin holds.log s busy)
           (λ k old new is. ne (sym is ∙ new_client k old new)) (λ k st is. stamped_old k st) (omega arith) s)
         where
-          new_client : (k : ℕ) → length w.hall.log.list ≤ k → k < length (begin_world w client word open-place given).hall.log.list → (operation_of (begin_world w client word open-place given).hall k).client ≡ client.number
-          new_client k old new = ap (λ m. (operation_of (begin_world w client word open-place given).hall m).client) at_last ∙ ap (λ z. z.client) new_op
+          new_client : (k : ℕ) → length w.hall.log.list ≤ k → k < length (begin_world w client word open_place given).hall.log.list → (operation_of (begin_world w client word open_place given).hall k).client ≡ client.number
+          new_client k old new = ap (λ m. (operation_of (begin_world w client word open_place given).hall m).client) at_last ∙ ap (λ z. z.client) new_op
             where
               at_last : k ≡ length w.hall.log.list
               at_last = omega (arith, old, simp length-append at new)

@@ -82,7 +82,7 @@ card_entering {kind} {w} {q} {card} c known next left_ready r = record {
       where
         ordered : Dec (e < card.epoch) → (e < card.epoch) ⊎ (card.epoch ≡ e)
         ordered (yes below) = inl below
-        ordered (no not-below) = inr (omega arith)
+        ordered (no not_below) = inr (omega arith)
 
     by_epoch : (e : ℕ) → (e < card.epoch) ⊎ (card.epoch ≡ e) → member (issued_as w.hall e).set.0 q ≡ true → Evidence (views w.hall) (history w.hall) q e (stamp_number card.pair)
     by_epoch e (inl below) m = r.left e below m
@@ -104,13 +104,13 @@ pub card_stocked : {kind : ℕ} {w : World} {q : ℕ} {card : Card} (from : Repl
     → member (issued_as w.hall a).set.0 from.number ≡ true
     → Stocked (history w.hall) from.number q a (stamp_number p)
     → CardRule kind w q card → CardRule kind w q (stocked w.hall.rules card from p)
-card_stocked {kind} {w} {q} {card} from p a is higher-than known genuine inside stock r = record {
+card_stocked {kind} {w} {q} {card} from p a is higher_than known genuine inside stock r = record {
   issued = r.issued;
   set = r.set;
   previous = r.previous;
   served = λ s. raise (r.served s);
   stocked = r.stocked;
-  left = λ e lt m. evidence_raised top higher-than.first (r.left e lt m);
+  left = λ e lt m. evidence_raised top higher_than.first (r.left e lt m);
   ready = λ y. evident (leb-true (quorum_size w.hall.rules) (ones heard_now) y);
   heard = now_heard;
   heard_within = λ b e. subst (λ x. Within heard_now (issued_as w.hall x).set.0) (same b e) within_now;
@@ -128,15 +128,15 @@ card_stocked {kind} {w} {q} {card} from p a is higher-than known genuine inside 
     same b e = omega arith
 
     raise : {t : ℕ} → t ≤ stamp_number card.pair → t ≤ stamp_number (higher card.pair p)
-    raise s = omega (arith, higher-than.first)
+    raise s = omega (arith, higher_than.first)
 
     within_now : Within (inserted card.heard.0 from.number) (issued_as w.hall a).set.0
     within_now = inserted_within from.number (r.heard_within a is) inside
 
     by_case : (n : ℕ) → (n ≡ from.number) ⊎ (member card.heard.0 n ≡ true) → StockedTo (history w.hall) n q a (stamp_number (higher card.pair p))
     by_case n (inl e) = subst (λ x. StockedTo (history w.hall) x q a (stamp_number (higher card.pair p))) (sym e)
-        (record { stamp = stamp_number p; low = higher-than.second; stocked = stock })
-    by_case n (inr m) = stocked_raised (stamp_number (higher card.pair p)) higher-than.first (r.heard n a m is)
+        (record { stamp = stamp_number p; low = higher_than.second; stocked = stock })
+    by_case n (inr m) = stocked_raised (stamp_number (higher card.pair p)) higher_than.first (r.heard n a m is)
 
     each : (n : ℕ) → member (inserted card.heard.0 from.number) n ≡ true → StockedTo (history w.hall) n q a (stamp_number (higher card.pair p))
     each n m = by_case n (inserted_cases card.heard.0 from.number n m)

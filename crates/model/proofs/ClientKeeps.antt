@@ -20,7 +20,7 @@ use Rattle.clients.specs.declared.line.Line.{Line}
 use Rattle.clients.specs.declared.line.Stage.{Stage}
 use Rattle.clients.specs.declared.line.Stage.TheVariants.{Idle, Reading, Writing, WritingBack, Over}
 use Rattle.clients.specs.declared.turn.Turn.{Turn}
-use Rattle.clients.specs.Lines.{ended, counting, sealed_with as with-seal}
+use Rattle.clients.specs.Lines.{ended, counting, sealed_with as with_seal}
 use Rattle.clients.specs.Steps.{Stepped, acted, signing}
 use Rattle.clients.specs.Turns.{Verdict, decided, is_quorum, read_of, write_of}
 use Rattle.halls.specs.declared.operation.Operation.{Operation}
@@ -187,7 +187,7 @@ module _ {kind : ℕ} {sealed : List Text} {w : World} (holds : Holds kind seale
   sealing true from word h large is = tt
   sealing false from word h large is =
       let seal = w.given (pair_text kind (forward client (heard (line_of w client) (entry_of w.hall n) from) word).highest) in
-      let line = with-seal (forward client (heard (line_of w client) (entry_of w.hall n) from) word) seal in
+      let line = with_seal (forward client (heard (line_of w client) (entry_of w.hall n) from) word) seal in
       stamps_kept w client.number line kind sealed (Some (write_of client line)) (spent w.hall.seals client.number) refl (ap (λ s. is_stamping s Writing) h.stage)
       (λ genuine grows. stamps_keep holds client within (seat_of w.hall client.number) own_rule room word line
       (stamping holds client within (seat_of w.hall client.number) own_rule small unforged n lt (pair_to h) from word seal h large is)

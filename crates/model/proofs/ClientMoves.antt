@@ -5,7 +5,7 @@ use Rattle.std.proofs.lemmas.Bool.{eqb-true, leb-false}
 use Rattle.kinds.specs.declared.word.Word.{Word}
 use Rattle.wire.specs.declared.entry.Entry.{Entry}
 use Rattle.wire.specs.declared.entry.EntryKind.{EntryKind}
-use Rattle.wire.specs.declared.entry.EntryKind.TheVariants.{Read, Write, Transfer, Pair as A-pair, Ack, Stock, Config, Behind}
+use Rattle.wire.specs.declared.entry.EntryKind.TheVariants.{Read, Write, Transfer, Pair as APair, Ack, Stock, Config, Behind}
 use Rattle.wire.specs.declared.party.Client.{Client}
 use Rattle.wire.specs.declared.party.Replica.{Replica}
 use Rattle.wire.specs.Entries.{kind_of, pair_of, configuration_of}
@@ -197,7 +197,7 @@ module _ (rules : Rules) (client : Client) (line : Line) (e : Entry) (genuine : 
   kind_view (Some Read) is p = not_ok p
   kind_view (Some Write) is p = not_ok p
   kind_view (Some Transfer) is p = not_ok p
-  kind_view (Some A-pair) is p = pair_view (kind_known _ _ is) p
+  kind_view (Some APair) is p = pair_view (kind_known _ _ is) p
   kind_view (Some Ack) is p = ack_view (kind_known _ _ is) p
   kind_view (Some Stock) is p = not_ok p
   kind_view (Some Config) is p = config_view (kind_known _ _ is) p

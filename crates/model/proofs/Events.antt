@@ -8,7 +8,7 @@ use Rattle.kinds.specs.declared.word.Word.{Word}
 use Rattle.wire.specs.declared.entry.Entry.{Entry}
 use Rattle.wire.specs.declared.party.Client.{Client}
 use Rattle.wire.specs.declared.party.Party.{Party}
-use Rattle.wire.specs.declared.party.Party.TheVariants.{Source as The-source, Client as A-client, Replica as A-replica}
+use Rattle.wire.specs.declared.party.Party.TheVariants.{Source as TheSource, Client as AClient, Replica as AReplica}
 use Rattle.wire.specs.declared.set.ReplicaSet.{ReplicaSet}
 use Rattle.wire.specs.declared.text.Text.{Text}
 use Rattle.wire.specs.Entries.{kind_of}
@@ -18,9 +18,9 @@ use Rattle.clients.specs.declared.line.Line.{Line}
 use Rattle.clients.specs.declared.line.Stage.{Stage}
 use Rattle.clients.specs.declared.line.Stage.TheVariants.{Idle, Reading, Writing, WritingBack, Over}
 use Rattle.clients.specs.Lines.{is_idle, is_open}
-use Rattle.clients.specs.Steps.{Stepped as Client-stepped}
+use Rattle.clients.specs.Steps.{Stepped as ClientStepped}
 use Rattle.replicas.specs.declared.fault.ReplicaFault.{ReplicaFault}
-use Rattle.replicas.specs.Steps.{Stepped as Replica-stepped}
+use Rattle.replicas.specs.Steps.{Stepped as ReplicaStepped}
 use Rattle.source.specs.Issued.{signing}
 use Rattle.halls.specs.declared.fault.HallFault.{HallFault}
 use Rattle.halls.specs.declared.operation.Operation.{Operation}
@@ -159,7 +159,7 @@ module _ (kind : ℕ) (sealed : List Text) (w : World) (holds : Holds kind seale
     closes : EndedLog w.hall (client_moves w.hall client.number (seat_of w.hall client.number) line None seals) client.number (seat_of w.hall client.number).operation → LogTurn
 
   log_turn : LineChange (operation_of w.hall (seat_of w.hall client.number).operation) (seat_of w.hall client.number).line line → LogTurn
-  log_turn (unchanged not_ended not-stamping) = stays (record {
+  log_turn (unchanged not_ended not_stamping) = stays (record {
     rules_same = refl;
     marked_same = refl;
     same_length = length-set w.hall.log.list _ _;
@@ -173,7 +173,7 @@ module _ (kind : ℕ) (sealed : List Text) (w : World) (holds : Holds kind seale
   })
     where
       same : logged (operation_of w.hall (seat_of w.hall client.number).operation) (seat_of w.hall client.number).line line (w.hall.moment + 1) ≡ operation_of w.hall (seat_of w.hall client.number).operation
-      same = rw (not_ended, not-stamping)
+      same = rw (not_ended, not_stamping)
   log_turn (stamps_now not_ended stamping reading word) = stays (record {
     rules_same = refl;
     marked_same = refl;
@@ -296,13 +296,13 @@ module _ {V : Type 0} (kind : Kind V) (sealed : List Text) (w : World) (holds : 
 
   begin_event : (n : ℕ) (word : Option Word) (call : Call V) (b : Answer V) → ((c : ℕ) → c ≡ n → BeginCall kind call c word) → begins_slip call b ≡ slips b
       → begin_called w n word ≡ record { answer = b; hall = h' } → Event kind w.hall h' call b
-  begin_event n word call b named is-slip p =
+  begin_event n word call b named is_slip p =
       way (has_its_tables w.hall) p (λ t q. by_party (party_in w.hall.rules n) refl q) (λ t q. no_begin _ q)
     where
       no_begin : (f : HallFault) → ◌≡◌ {A = Outcome V} (record { answer = refused f; hall = w.hall }) (record { answer = b; hall = h' }) → Event kind w.hall h' call b
-      no_begin f q = unmoved_event call (is-slip ∙ refused_begin f q) q
+      no_begin f q = unmoved_event call (is_slip ∙ refused_begin f q) q
 
-      as_client : (client : Client) → client.number ≡ n → begin_by (Some (A-client client)) client.number w.hall word ≡ record { answer = b; hall = h' } → Event kind w.hall h' call b
+      as_client : (client : Client) → client.number ≡ n → begin_by (Some (AClient client)) client.number w.hall word ≡ record { answer = b; hall = h' } → Event kind w.hall h' call b
       as_client client number q =
           way (not (is_idle (seat_of w.hall client.number).line.stage)) q (λ t s. no_begin _ s)
           (λ idle s. way (is_full w.hall.log || (is_full w.hall.post || not (has_moment w.hall))) s (λ t z. no_begin _ z)
@@ -325,11 +325,11 @@ module _ {V : Type 0} (kind : Kind V) (sealed : List Text) (w : World) (holds : 
 
       by_party : (o : Option Party) → party_in w.hall.rules n ≡ o → begin_by o n w.hall word ≡ record { answer = b; hall = h' } → Event kind w.hall h' call b
       by_party None is q = no_begin _ q
-      by_party (Some The-source) is q = no_begin _ q
-      by_party (Some (A-replica r)) is q = no_begin _ q
-      by_party (Some (A-client client)) is q =
+      by_party (Some TheSource) is q = no_begin _ q
+      by_party (Some (AReplica r)) is q = no_begin _ q
+      by_party (Some (AClient client)) is q =
           let c = client_in w.hall.rules n client is in
-          as_client client c.number (subst (λ m. begin_by (Some (A-client client)) m w.hall word ≡ record { answer = b; hall = h' }) (sym c.number) q)
+          as_client client c.number (subst (λ m. begin_by (Some (AClient client)) m w.hall word ≡ record { answer = b; hall = h' }) (sym c.number) q)
 
   deliver_event : (number party : ℕ) (b : Answer V) → deliver_called w kind.number number party ≡ record { answer = b; hall = h' } → Event kind w.hall h' (deliver number party) b
   deliver_event number party b p =
@@ -344,7 +344,7 @@ module _ {V : Type 0} (kind : Kind V) (sealed : List Text) (w : World) (holds : 
       stayed : {a : Answer V} → ◌≡◌ {A = Outcome V} (record { answer = a; hall = w.hall }) (record { answer = b; hall = h' }) → Event kind w.hall h' (deliver number party) b
       stayed q = unmoved_event (deliver number party) refl q
 
-      by_saved : (s : Replica-stepped) (o : Result (Option Entry) ReplicaFault) → by_replica o s.place s.saves number w.hall ≡ record { answer = b; hall = h' } → Event kind w.hall h' (deliver number party) b
+      by_saved : (s : ReplicaStepped) (o : Result (Option Entry) ReplicaFault) → by_replica o s.place s.saves number w.hall ≡ record { answer = b; hall = h' } → Event kind w.hall h' (deliver number party) b
       by_saved s (Err fault) z = stayed z
       by_saved s (Ok None) z = other_event (deliver number party) (with_store w.hall s.place s.saves) refl (became z)
           (record { rules_same = refl; marked_same = refl; same_length = refl; same_moment = refl; client = λ k. refl; writes = λ k. refl; began = λ k. refl; ended = λ k. refl; word = λ k y. refl; over = λ k o. refl })
@@ -352,7 +352,7 @@ module _ {V : Type 0} (kind : Kind V) (sealed : List Text) (w : World) (holds : 
           (record { rules_same = refl; marked_same = refl; same_length = refl; same_moment = refl; client = λ k. refl; writes = λ k. refl; began = λ k. refl; ended = λ k. refl; word = λ k y. refl; over = λ k o. refl })
 
       to_client : (client : Client) → 1 ≤ client.number → client.number ≤ w.hall.rules.clients
-          → (s : Client-stepped) → client_step_of w kind.number client (entry_of w.hall number) ≡ s → client_done s number w.hall client ≡ record { answer = b; hall = h' } → Event kind w.hall h' (deliver number party) b
+          → (s : ClientStepped) → client_step_of w kind.number client (entry_of w.hall number) ≡ s → client_done s number w.hall client ≡ record { answer = b; hall = h' } → Event kind w.hall h' (deliver number party) b
       to_client client low high s is q = by_answer s.answer refl q
         where
           by_answer : (o : Result (Option Entry) ClientFault) → s.answer ≡ o → by_client o s.line s.seals number w.hall client ≡ record { answer = b; hall = h' } → Event kind w.hall h' (deliver number party) b
@@ -369,14 +369,14 @@ module _ {V : Type 0} (kind : Kind V) (sealed : List Text) (w : World) (holds : 
 
       by_party : (o : Option Party) → party_in w.hall.rules party ≡ o → deliver_to o w kind.number number (entry_of w.hall number) ≡ record { answer = b; hall = h' } → Event kind w.hall h' (deliver number party) b
       by_party None is q = stayed q
-      by_party (Some The-source) is q = way (is_full w.hall.post || not (has_moment w.hall)) q (λ u s. stayed s) (λ u s. stayed s)
-      by_party (Some (A-client client)) is q =
+      by_party (Some TheSource) is q = way (is_full w.hall.post || not (has_moment w.hall)) q (λ u s. stayed s) (λ u s. stayed s)
+      by_party (Some (AClient client)) is q =
           let c = client_in w.hall.rules party client is in
           way (is_full w.hall.post || not (has_moment w.hall)) q (λ u s. stayed s)
           (λ room s. way (not (fits_client (kind_of (entry_of w.hall number).kind) (entry_of w.hall number) client)) s (λ u z. stayed z)
           (λ fits z. to_client client (subst (λ m. 1 ≤ m) (sym c.number) c.low) (subst (λ m. m ≤ w.hall.rules.clients) (sym c.number) c.high)
           (client_step_of w kind.number client (entry_of w.hall number)) refl z))
-      by_party (Some (A-replica r)) is q =
+      by_party (Some (AReplica r)) is q =
           way (is_full w.hall.post || not (has_moment w.hall)) q (λ u s. stayed s)
           (λ room s. way (not (fits_replica (kind_of (entry_of w.hall number).kind) (entry_of w.hall number) r)) s (λ u z. stayed z)
           (λ fits z. by_saved (replica_step_of w kind.number r (entry_of w.hall number)) _ z))
@@ -405,9 +405,9 @@ module _ {V : Type 0} (kind : Kind V) (sealed : List Text) (w : World) (holds : 
 
       by_party : (o : Option Party) → meddle_by o w.hall party e ≡ record { answer = b; hall = h' } → Event kind w.hall h' (meddle party e) b
       by_party None q = stayed q
-      by_party (Some The-source) q = stayed q
-      by_party (Some (A-client client)) q = stayed q
-      by_party (Some (A-replica r)) q =
+      by_party (Some TheSource) q = stayed q
+      by_party (Some (AClient client)) q = stayed q
+      by_party (Some (AReplica r)) q =
           way (not (member w.hall.marked r.number)) q (λ t s. stayed s)
           (λ t s. way (is_full w.hall.post) s (λ u z. stayed z)
           (λ u z. other_event (meddle party e) _ refl (became z)

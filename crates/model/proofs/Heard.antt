@@ -42,11 +42,11 @@ pub record SentBy (set sender : ℕ) (from : Replica) : Type 0 where
   pub inside : member set from.number ≡ true
 
 pub sent_by : (set sender : ℕ) (from : Replica) → sender_within set sender ≡ Some from → SentBy set sender from
-sent_by set sender from p = way (leb 100 sender && member set (sender - 100)) p (λ in-set q. told in-set q) (λ out q. not_some q)
+sent_by set sender from p = way (leb 100 sender && member set (sender - 100)) p (λ in_set q. told in_set q) (λ out q. not_some q)
   where
     told : (leb 100 sender && member set (sender - 100)) ≡ true → replica_of (sender - 100) ≡ Some from → SentBy set sender from
-    told in-set q =
-        let parts = and_parts (leb 100 sender) (member set (sender - 100)) in-set in
+    told in_set q =
+        let parts = and_parts (leb 100 sender) (member set (sender - 100)) in_set in
         let is : from.number ≡ sender - 100 = sym (ap (λ (r : Replica). r.number) (only_if_some (ltb (sender - 100) 64) (λ e. record { number = sender - 100; ok = e }) from q).1) in
         record { number = omega (arith, leb-true 100 sender parts.0); inside = ap (member set) is ∙ parts.1 }
 
@@ -73,7 +73,7 @@ module _ {kind : ℕ} {sealed : List Text} {w : World} (holds : Holds kind seale
       → ((counted ≡ 0 → ⊥) → KnownPair w.hall highest) → ((counted ≡ 0 → ⊥) → Genuine kind w highest)
       → (none higher : Bool) → eqb counted 0 ≡ none → above pair.stamp highest.stamp ≡ higher
       → Merged kind w counted highest pair (cond none pair (cond higher pair highest)) agree (cond none true (agree && same_stamp pair.stamp highest.stamp))
-  merged counted highest pair agree known genuine known-old genuine-old true higher is order = record {
+  merged counted highest pair agree known genuine known_old genuine_old true higher is order = record {
     first = omega arith;
     second = λ some. absurd (some (eqb-true counted 0 is));
     known = known;
@@ -82,8 +82,8 @@ module _ {kind : ℕ} {sealed : List Text} {w : World} (holds : Holds kind seale
     agree_second = λ e some. absurd (some (eqb-true counted 0 is));
     agreed = λ e some. absurd (some (eqb-true counted 0 is));
   }
-  merged counted highest pair agree known genuine known-old genuine-old false true is order =
-      let low : stamp_number highest < stamp_number pair = above_higher pair highest (known_writer kind sealed w holds pair known) (known_writer kind sealed w holds highest (known-old (eqb-false counted 0 is))) order in record {
+  merged counted highest pair agree known genuine known_old genuine_old false true is order =
+      let low : stamp_number highest < stamp_number pair = above_higher pair highest (known_writer kind sealed w holds pair known) (known_writer kind sealed w holds highest (known_old (eqb-false counted 0 is))) order in record {
         first = omega arith;
         second = λ some. omega arith;
         known = known;
@@ -92,12 +92,12 @@ module _ {kind : ℕ} {sealed : List Text} {w : World} (holds : Holds kind seale
         agree_second = λ e some. sym (same_number pair highest (and_parts agree (same_stamp pair.stamp highest.stamp) e).1);
         agreed = λ e some. (and_parts agree (same_stamp pair.stamp highest.stamp) e).0;
       }
-  merged counted highest pair agree known genuine known-old genuine-old false false is order =
+  merged counted highest pair agree known genuine known_old genuine_old false false is order =
       let some = eqb-false counted 0 is in record {
-        first = not_above pair highest (known_writer kind sealed w holds pair known) (known_writer kind sealed w holds highest (known-old some)) order;
+        first = not_above pair highest (known_writer kind sealed w holds pair known) (known_writer kind sealed w holds highest (known_old some)) order;
         second = λ s. omega arith;
-        known = known-old some;
-        genuine = genuine-old some;
+        known = known_old some;
+        genuine = genuine_old some;
         agree_first = λ e. same_number pair highest (and_parts agree (same_stamp pair.stamp highest.stamp) e).1;
         agree_second = λ e s. refl;
         agreed = λ e s. (and_parts agree (same_stamp pair.stamp highest.stamp) e).0;

@@ -28,25 +28,25 @@ use Rattle.model.proofs.Ways.{both, not-false}
 
 -- the world after the source has issued a configuration
 abbrev pub issue_world : World → Source → Configuration → (ℕ → ℕ) → ℕ → (Text → Seal → Bool) → (Text → Seal) → World
-issue_world w source c seals open-place genuine given = record {
+issue_world w source c seals open_place genuine given = record {
   hall = with_seals (with_source (with_post w.hall (added w.hall.post (config_entry 0 c))) source (added w.hall.roll c)) seals;
-  next = open-place;
+  next = open_place;
   genuine = genuine;
   given = given;
 }
 
 module _ (kind : ℕ) (sealed : List Text) (w : World) (holds : Holds kind sealed w) (source : Source) (c : Configuration) (seals : ℕ → ℕ)
-    (open-place : ℕ) (genuine : Text → Seal → Bool) (given : Text → Seal)
+    (open_place : ℕ) (genuine : Text → Seal → Bool) (given : Text → Seal)
     (epoch : c.epoch ≡ w.hall.source.newest + 1) (newest : source.newest ≡ w.hall.source.newest + 1)
     (right : is_right_set w.hall.rules c.set.0 ≡ true)
     (few : has_too_many_marked w.hall.rules w.hall.marked c.set.0 ≡ false)
-    (roll-room : is_full w.hall.roll ≡ false) (post-room : is_full w.hall.post ≡ false)
+    (roll_room : is_full w.hall.roll ≡ false) (post_room : is_full w.hall.post ≡ false)
     (monotone : (t : Text) (s : Seal) → w.genuine t s ≡ true → genuine t s ≡ true)
     (kept : (p : ℕ) → 1 ≤ p → seals p ≡ w.hall.seals p) where
   world : World
-  world = issue_world w source c seals open-place genuine given
+  world = issue_world w source c seals open_place genuine given
 
-  later_issued : Later w (issue_world w source c seals open-place genuine given)
+  later_issued : Later w (issue_world w source c seals open_place genuine given)
   unfolding history
   later_issued = record {
     rules = refl;
@@ -78,7 +78,7 @@ module _ (kind : ℕ) (sealed : List Text) (w : World) (holds : Holds kind seale
   new_epoch : c.epoch ≡ length w.hall.roll.list
   new_epoch = epoch ∙ holds.roll.source
 
-  sound_issued : Sound (views (issue_world w source c seals open-place genuine given).hall)
+  sound_issued : Sound (views (issue_world w source c seals open_place genuine given).hall)
   sound_issued = record { sized = λ e lt. sized e (by_epoch e lt); few = λ e lt. marked e (by_epoch e lt) }
     where
       sized : (e : ℕ) → (e < length w.hall.roll.list) ⊎ (length w.hall.roll.list ≡ e)
@@ -93,7 +93,7 @@ module _ (kind : ℕ) (sealed : List Text) (w : World) (holds : Holds kind seale
       marked e (inr new) = subst (λ m. ones (bit_and (get_or (w.hall.roll.list ++ (c ∷ [])) m no_configuration).set.0 w.hall.marked) ≤ w.hall.rules.faults) new
           (subst (λ z. ones (bit_and z.set.0 w.hall.marked) ≤ w.hall.rules.faults) (sym (at_end w.hall.roll.list c no_configuration)) (leb-true _ _ (not-false _ few)))
 
-  roll_issued : RollRule (issue_world w source c seals open-place genuine given).hall
+  roll_issued : RollRule (issue_world w source c seals open_place genuine given).hall
   roll_issued = record {
     sound = sound_issued;
     some = simp length-append (omega arith);
@@ -107,29 +107,29 @@ module _ (kind : ℕ) (sealed : List Text) (w : World) (holds : Holds kind seale
       epochs e (inr new) = subst (λ m. (get_or (w.hall.roll.list ++ (c ∷ [])) m no_configuration).epoch ≡ m) new
           (ap (λ z. z.epoch) (at_end w.hall.roll.list c no_configuration) ∙ new_epoch)
 
-  sized_issued : Sized (issue_world w source c seals open-place genuine given).hall
+  sized_issued : Sized (issue_world w source c seals open_place genuine given).hall
   sized_issued = let s = holds.sized in record {
     tables = ap (λ p. (eqb p w.hall.lengths.post && eqb (places w.hall.log) w.hall.lengths.log)
-        && (eqb (places (added w.hall.roll c)) w.hall.lengths.roll && eqb (length w.hall.seats) w.hall.rules.clients)) (places_added w.hall.post (config_entry 0 c) post-room)
+        && (eqb (places (added w.hall.roll c)) w.hall.lengths.roll && eqb (length w.hall.seats) w.hall.rules.clients)) (places_added w.hall.post (config_entry 0 c) post_room)
         ∙ ap (λ p. (eqb (places w.hall.post) w.hall.lengths.post && eqb (places w.hall.log) w.hall.lengths.log)
-        && (eqb p w.hall.lengths.roll && eqb (length w.hall.seats) w.hall.rules.clients)) (places_added w.hall.roll c roll-room)
+        && (eqb p w.hall.lengths.roll && eqb (length w.hall.seats) w.hall.rules.clients)) (places_added w.hall.roll c roll_room)
         ∙ s.tables;
     faults = s.faults;
     replicas = s.replicas;
     clients = s.clients;
-    post_limit = rw (places_added w.hall.post (config_entry 0 c) post-room) s.post_limit;
+    post_limit = rw (places_added w.hall.post (config_entry 0 c) post_room) s.post_limit;
     log_limit = s.log_limit;
   }
 
   -- the text that was sealed is that of the new configuration
-  pub issue_keeps : (t : Text) → t ≡ configuration_text c → Holds kind (t ∷ sealed) (issue_world w source c seals open-place genuine given)
+  pub issue_keeps : (t : Text) → t ≡ configuration_text c → Holds kind (t ∷ sealed) (issue_world w source c seals open_place genuine given)
   unfolding later_issued history
   issue_keeps t text = record {
     sized = sized_issued;
     roll = roll_issued;
-    good = subst (λ h. Good (views (issue_world w source c seals open-place genuine given).hall) h) (sym (history_added w.hall (config_entry 0 c)))
+    good = subst (λ h. Good (views (issue_world w source c seals open_place genuine given).hall) h) (sym (history_added w.hall (config_entry 0 c)))
         (next (justified_unruled (omega arith)) (good_extends (later_views later_issued) holds.good));
-    answers = answers_posted kind w (issue_world w source c seals open-place genuine given) (config_entry 0 c) later_issued refl (no_answer kind _ _ (λ e. omega arith) (λ e. omega arith)) holds.answers;
+    answers = answers_posted kind w (issue_world w source c seals open_place genuine given) (config_entry 0 c) later_issued refl (no_answer kind _ _ (λ e. omega arith) (λ e. omega arith)) holds.answers;
     cards = λ q lt. let mine = holds.cards q lt in record {
       card = mine.card;
       kept = mine.kept;
@@ -138,13 +138,13 @@ module _ (kind : ℕ) (sealed : List Text) (w : World) (holds : Holds kind seale
     seats = λ p low high. let s = holds.seats p low high in
         later_seat kind p (seat_of w.hall p) later_issued (next (record { not_read = λ e k. omega arith; not_write = λ e k. omega arith }) done) (λ busy. refl) (λ busy. seats_begin holds.log s busy)
         (λ k old new is. absurd (omega arith)) (λ k st is. record { logged = st.logged; writes = st.writes; stamped = st.stamped }) (le_of_eq (sym (kept p low))) s;
-    log = log_later w (issue_world w source c seals open-place genuine given) later_issued refl refl holds.log;
+    log = log_later w (issue_world w source c seals open_place genuine given) later_issued refl refl holds.log;
     texts = λ u m. known u (Memᴰ.cases_cons m);
   }
     where
-      new_text : t ≡ configuration_text (issued_as (issue_world w source c seals open-place genuine given).hall (length w.hall.roll.list))
+      new_text : t ≡ configuration_text (issued_as (issue_world w source c seals open_place genuine given).hall (length w.hall.roll.list))
       new_text = text ∙ ap configuration_text (sym (at_end w.hall.roll.list c no_configuration))
 
-      known : (u : Text) → (u ≡ t) ⊎ (Memᴰ u sealed) → KnownText kind (issue_world w source c seals open-place genuine given).hall u
+      known : (u : Text) → (u ≡ t) ⊎ (Memᴰ u sealed) → KnownText kind (issue_world w source c seals open_place genuine given).hall u
       known u (inl e) = of_configuration (length w.hall.roll.list) (simp length-append (omega arith)) (e ∙ new_text)
       known u (inr m) = later_text kind later_issued u (holds.texts u m)

@@ -8,7 +8,7 @@ use native.Mathlib.Decide.{ℕ_discrete}
 use borrow.Author.Tests.{clash}
 use Rattle.kinds.specs.declared.word.Word.{Word}
 use Rattle.orders.specs.Order.{◌∈◌, Operations, Precedes, last_written, Stamped, Order, Origin}
-use Rattle.orders.specs.Order.Origin.{the_opening as from-opening, a_write as from-write}
+use Rattle.orders.specs.Order.Origin.{the_opening as from_opening, a_write as from_write}
 use Rattle.orders.proofs.Theorem.{stamped_operations_have_an_order}
 use Rattle.model.specs.Halls.{Hall, World, Kind, operation_of}
 use Rattle.model.specs.Order.{Operation, Ended, Finished, Writes, value_written, newer, held_after, InOrder, Linearizable}
@@ -16,7 +16,7 @@ use Rattle.model.specs.Runs.{Lawful, Opened, Run, Unforged}
 use Rattle.model.proofs.Events.{EndedLog, BeginCall, by_read, by_write, begins_slip, slips}
 use Rattle.model.proofs.Images.{split_from, map_member, comes_from, below, IsBelow, below_only, below_all, below_distinct}
 use Rattle.model.proofs.Growing.{Grows, ended_logged}
-use Rattle.model.proofs.Invariants.{stamp_number, StampedWrite, KnownPair, the_opening, a_write as of-a-write, OverBefore, Holds}
+use Rattle.model.proofs.Invariants.{stamp_number, StampedWrite, KnownPair, the_opening, a_write as of_a_write, OverBefore, Holds}
 use Rattle.model.proofs.RunKeeps.{sealed_at, holds_at}
 use Rattle.model.proofs.Trace.{grows, StartOf, started, operation_started, Told, told, found_start, found_end, opening_stays, EndAt, end_client, ended_valued, ended_told, ended_at}
 use Rattle.wire.specs.declared.text.Text.{Text}
@@ -102,9 +102,9 @@ log_stamped kind sealed w holds = record {
     falls_not i j mj o false r = holds.log.falls_not i j o (in_log j mj) r (read_ended j mj r)
 
     origin : (i : ℕ) → KnownPair w.hall (operation_of w.hall i).pair → Origin (operations w.hall) w.hall.rules.opening.0 (below (standing w.hall) (length w.hall.log.list)) i
-    origin i (the_opening count writer word) = from-opening (omega (arith, count, writer)) (ap (λ x. x.0) word)
-    origin i (of-a-write k s stamp word) =
-        from-write k (below_all (standing w.hall) (length w.hall.log.list) k s.logged (write_stands w.hall k s)) s.writes
+    origin i (the_opening count writer word) = from_opening (omega (arith, count, writer)) (ap (λ x. x.0) word)
+    origin i (of_a_write k s stamp word) =
+        from_write k (below_all (standing w.hall) (length w.hall.log.list) k s.logged (write_stands w.hall k s)) s.writes
         (ap (λ t. t.count * 256 + t.writer) stamp) (ap (λ x. x.0) word)
 
 module _ {V : Type 0} (kind : Kind V) (v : V) (start : World) (lawful : Lawful kind) (opened : Opened kind v start.hall) (run : Run kind start) (unforged : Unforged run) where
@@ -209,18 +209,18 @@ module _ {V : Type 0} (kind : Kind V) (v : V) (start : World) (lawful : Lawful k
       let s = known_start k lt in
       let f = found_end kind v start lawful opened run unforged run.calls (omega arith) k o in
       let within : f.position < run.calls = f.earlier in
-      let Ends-there = f.here_ends in
-      let same = end_client kind v start lawful opened run unforged f.position (where_begun k) s.client k within (operation_at k s) Ends-there in
-      let valued = ended_valued kind v start lawful opened run unforged (f.position + 1) k (omega arith) (omega (arith, Ends-there.log.now)) in
+      let EndsThere = f.here_ends in
+      let same = end_client kind v start lawful opened run unforged f.position (where_begun k) s.client k within (operation_at k s) EndsThere in
+      let valued = ended_valued kind v start lawful opened run unforged (f.position + 1) k (omega arith) (omega (arith, EndsThere.log.now)) in
       record {
         position = f.position;
         value = valued.value;
         ended = ended_told kind v start lawful opened run unforged (where_begun k) s.client k f.position valued.value (operation_at k s)
             (record {
               within = within;
-              low = subst (λ m. 1 ≤ m) same Ends-there.low;
-              high = subst (λ m. m ≤ (run.world f.position).hall.rules.clients) same Ends-there.high;
-              log = subst (λ m. EndedLog (run.world f.position).hall (run.world (f.position + 1)).hall m k) same Ends-there.log;
+              low = subst (λ m. 1 ≤ m) same EndsThere.low;
+              high = subst (λ m. m ≤ (run.world f.position).hall.rules.clients) same EndsThere.high;
+              log = subst (λ m. EndedLog (run.world f.position).hall (run.world (f.position + 1)).hall m k) same EndsThere.log;
               value = valued.is;
             });
       }
@@ -310,8 +310,8 @@ module _ {V : Type 0} (kind : Kind V) (v : V) (start : World) (lawful : Lawful k
           let s = split_from where_begun places front back i e in
           let c = comes_from where_begun s.before i (subst (λ l. i ∈ l) (sym s.front_is) m) in
           let here_in = subst (λ l. s.at ∈ l) (sym s.is) (Memᴰ.append_right s.before (here refl)) in
-          let there-in = subst (λ l. c.at ∈ l) (sym s.is) (Memᴰ.append_left (s.at ∷ s.after) c.inside) in
-          let same = one_place c.at s.at (in_log c.at there-in).lower (in_log s.at here_in).lower (c.at_is ∙ sym s.at_is) in
+          let there_in = subst (λ l. c.at ∈ l) (sym s.is) (Memᴰ.append_left (s.at ∷ s.after) c.inside) in
+          let same = one_place c.at s.at (in_log c.at there_in).lower (in_log s.at here_in).lower (c.at_is ∙ sym s.at_is) in
           ordered.once s.before s.after s.at s.is (subst (λ z. z ∈ s.before) same c.inside)
 
       time : (front back : List ℕ) (o p j : ℕ) (u : V) → map where_begun places ≡ front ++ (j ∷ back) → Ended run o p u → p < j → o ∈ front
@@ -327,7 +327,7 @@ module _ {V : Type 0} (kind : Kind V) (v : V) (start : World) (lawful : Lawful k
         where
           earlier : (a k : ℕ) → p < run.calls → (operation_of last k).ended ≡ (run.world (p + 1)).hall.moment → where_begun a ≡ j
               → (operation_of last a).began ≡ (run.world (where_begun a)).hall.moment + 1 → where_begun a < run.calls → (operation_of last k).ended < (operation_of last a).began
-          earlier a k within ended at began start-within =
+          earlier a k within ended at began start_within =
               let g : Grows (run.world (p + 1)).hall (run.world (where_begun a)).hall = grows kind v start lawful opened run unforged (p + 1) (where_begun a) (omega arith) (omega arith) in
               omega (arith, ended, began, g.moment)
 

@@ -5,41 +5,41 @@ use Rattle.std.specs.Option.{option_map}
 use Rattle.kinds.specs.Partials.{only_if_some}
 use Rattle.wire.specs.declared.party.Client.{Client}
 use Rattle.wire.specs.declared.party.Party.{Party}
-use Rattle.wire.specs.declared.party.Party.TheVariants.{Source as The-source, Client as A-client, Replica as A-replica}
+use Rattle.wire.specs.declared.party.Party.TheVariants.{Source as TheSource, Client as AClient, Replica as AReplica}
 use Rattle.wire.specs.declared.party.Replica.{Replica}
 use Rattle.wire.specs.Parties.{party_of, client_of, replica_of}
 use Rattle.rules.specs.declared.rules.Rules.{Rules}
 use Rattle.model.specs.Halls.{party_within, party_in}
 use Rattle.model.proofs.Ways.{way, not_some, both}
 
-client_same : {c d : Client} → ◌≡◌ {A = Option Party} (Some (A-client c)) (Some (A-client d)) → c ≡ d
+client_same : {c d : Client} → ◌≡◌ {A = Option Party} (Some (AClient c)) (Some (AClient d)) → c ≡ d
 client_same p = cc
 
-replica_same : {c d : Replica} → ◌≡◌ {A = Option Party} (Some (A-replica c)) (Some (A-replica d)) → c ≡ d
+replica_same : {c d : Replica} → ◌≡◌ {A = Option Party} (Some (AReplica c)) (Some (AReplica d)) → c ≡ d
 replica_same p = cc
 
-mixed : {P : Type 0} {r : Replica} {c : Client} → ◌≡◌ {A = Option Party} (Some (A-replica r)) (Some (A-client c)) → P
+mixed : {P : Type 0} {r : Replica} {c : Client} → ◌≡◌ {A = Option Party} (Some (AReplica r)) (Some (AClient c)) → P
 mixed p = let z : ◌≡◌ {A = ℕ} 0 1 = cc in absurd (omega arith)
 
-source_mixed : {P : Type 0} {r : Replica} → ◌≡◌ {A = Option Party} (Some The-source) (Some (A-replica r)) → P
+source_mixed : {P : Type 0} {r : Replica} → ◌≡◌ {A = Option Party} (Some TheSource) (Some (AReplica r)) → P
 source_mixed p = let z : ◌≡◌ {A = ℕ} 0 1 = cc in absurd (omega arith)
 
-source_client : {P : Type 0} {r : Client} → ◌≡◌ {A = Option Party} (Some The-source) (Some (A-client r)) → P
+source_client : {P : Type 0} {r : Client} → ◌≡◌ {A = Option Party} (Some TheSource) (Some (AClient r)) → P
 source_client p = let z : ◌≡◌ {A = ℕ} 0 1 = cc in absurd (omega arith)
 
-mapped_client : (o : Option Client) (c : Client) → option_map A-client o ≡ Some (A-client c) → o ≡ Some c
+mapped_client : (o : Option Client) (c : Client) → option_map AClient o ≡ Some (AClient c) → o ≡ Some c
 mapped_client None c p = not_some p
 mapped_client (Some d) c p = ap Some (client_same p)
 
-mapped_replica : (o : Option Replica) (r : Replica) → option_map A-replica o ≡ Some (A-replica r) → o ≡ Some r
+mapped_replica : (o : Option Replica) (r : Replica) → option_map AReplica o ≡ Some (AReplica r) → o ≡ Some r
 mapped_replica None r p = not_some p
 mapped_replica (Some d) r p = ap Some (replica_same p)
 
-client_mapped : {P : Type 0} (o : Option Client) (r : Replica) → option_map A-client o ≡ Some (A-replica r) → P
+client_mapped : {P : Type 0} (o : Option Client) (r : Replica) → option_map AClient o ≡ Some (AReplica r) → P
 client_mapped None r p = not_some p
 client_mapped (Some d) r p = mixed (sym p)
 
-replica_mapped : {P : Type 0} (o : Option Replica) (c : Client) → option_map A-replica o ≡ Some (A-client c) → P
+replica_mapped : {P : Type 0} (o : Option Replica) (c : Client) → option_map AReplica o ≡ Some (AClient c) → P
 replica_mapped None c p = not_some p
 replica_mapped (Some d) c p = mixed p
 
@@ -54,7 +54,7 @@ pub record ReplicaIn (rules : Rules) (n : ℕ) (r : Replica) : Type 0 where
   pub number : 100 + r.number ≡ n
   pub inside : r.number < rules.replicas
 
-party_client : (n : ℕ) (c : Client) → party_of n ≡ Some (A-client c) → (c.number ≡ n) × (1 ≤ n)
+party_client : (n : ℕ) (c : Client) → party_of n ≡ Some (AClient c) → (c.number ≡ n) × (1 ≤ n)
 party_client n c p =
     way (eqb n 0) p (λ t e. source_client e)
     (λ t e. way (leb 1 n && leb n 32) e
@@ -62,7 +62,7 @@ party_client n c p =
     (sym (ap (λ z. z.number) found.1), leb-true 1 n (both (leb 1 n) (leb n 32) u).first))
     (λ u f. way (leb 100 n && leb n 163) f (λ v g. replica_mapped (replica_of (n - 100)) c g) (λ v g. not_some g)))
 
-party_replica : (n : ℕ) (r : Replica) → party_of n ≡ Some (A-replica r) → 100 + r.number ≡ n
+party_replica : (n : ℕ) (r : Replica) → party_of n ≡ Some (AReplica r) → 100 + r.number ≡ n
 party_replica n r p =
     way (eqb n 0) p (λ t e. source_mixed e)
     (λ t e. way (leb 1 n && leb n 32) e
@@ -74,27 +74,27 @@ party_replica n r p =
     omega arith)
     (λ v g. not_some g)))
 
-within_client : (rules : Rules) (o : Option Party) (c : Client) → party_within rules o ≡ Some (A-client c) → (o ≡ Some (A-client c)) × (c.number ≤ rules.clients)
+within_client : (rules : Rules) (o : Option Party) (c : Client) → party_within rules o ≡ Some (AClient c) → (o ≡ Some (AClient c)) × (c.number ≤ rules.clients)
 within_client rules None c p = not_some p
-within_client rules (Some The-source) c p = source_client p
-within_client rules (Some (A-client d)) c p =
+within_client rules (Some TheSource) c p = source_client p
+within_client rules (Some (AClient d)) c p =
     way (leb d.number rules.clients) p
     (λ t e. let same = client_same e in (e, rw (← same) (leb-true d.number rules.clients t)))
     (λ t e. not_some e)
-within_client rules (Some (A-replica r)) c p =
+within_client rules (Some (AReplica r)) c p =
     way (ltb r.number rules.replicas) p (λ t e. mixed e) (λ t e. not_some e)
 
-within_replica : (rules : Rules) (o : Option Party) (r : Replica) → party_within rules o ≡ Some (A-replica r) → (o ≡ Some (A-replica r)) × (r.number < rules.replicas)
+within_replica : (rules : Rules) (o : Option Party) (r : Replica) → party_within rules o ≡ Some (AReplica r) → (o ≡ Some (AReplica r)) × (r.number < rules.replicas)
 within_replica rules None r p = not_some p
-within_replica rules (Some The-source) r p = source_mixed p
-within_replica rules (Some (A-client d)) r p =
+within_replica rules (Some TheSource) r p = source_mixed p
+within_replica rules (Some (AClient d)) r p =
     way (leb d.number rules.clients) p (λ t e. mixed (sym e)) (λ t e. not_some e)
-within_replica rules (Some (A-replica d)) r p =
+within_replica rules (Some (AReplica d)) r p =
     way (ltb d.number rules.replicas) p
     (λ t e. let same = replica_same e in (e, rw (← same) (ltb-true d.number rules.replicas t)))
     (λ t e. not_some e)
 
-pub client_in : (rules : Rules) (n : ℕ) (c : Client) → party_in rules n ≡ Some (A-client c) → ClientIn rules n c
+pub client_in : (rules : Rules) (n : ℕ) (c : Client) → party_in rules n ≡ Some (AClient c) → ClientIn rules n c
 client_in rules n c p =
     let inside = within_client rules (party_of n) c p in
     let found = party_client n c inside.0 in
@@ -102,7 +102,7 @@ client_in rules n c p =
     let high = inside.1 in
     record { number = number; low = found.1; high = omega arith }
 
-pub replica_in : (rules : Rules) (n : ℕ) (r : Replica) → party_in rules n ≡ Some (A-replica r) → ReplicaIn rules n r
+pub replica_in : (rules : Rules) (n : ℕ) (r : Replica) → party_in rules n ≡ Some (AReplica r) → ReplicaIn rules n r
 replica_in rules n r p =
     let inside = within_replica rules (party_of n) r p in
     record { number = party_replica n r inside.0; inside = inside.1 }

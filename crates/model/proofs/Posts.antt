@@ -183,7 +183,7 @@ post_keeps kind sealed w x holds room justified answer cards quiet = record {
 
 -- the world with other seats, another store, other seals left, and what is open otherwise
 abbrev pub aside : World → List Seat → (ℕ → Option Card) → Saves → (ℕ → ℕ) → ℕ → (Text → Seal) → World
-aside w seats place saves seals open-place given = record {
+aside w seats place saves seals open_place given = record {
   hall = record {
     rules = w.hall.rules;
     marked = w.hall.marked;
@@ -198,14 +198,14 @@ aside w seats place saves seals open-place given = record {
     saves = saves;
     seals = seals;
   };
-  next = open-place;
+  next = open_place;
   genuine = w.genuine;
   given = given;
 }
 
-unfoldable pub later_aside : (w : World) (seats : List Seat) (place : ℕ → Option Card) (saves : Saves) (seals : ℕ → ℕ) (open-place : ℕ) (given : Text → Seal) → Later w (aside w seats place saves seals open-place given)
+unfoldable pub later_aside : (w : World) (seats : List Seat) (place : ℕ → Option Card) (saves : Saves) (seals : ℕ → ℕ) (open_place : ℕ) (given : Text → Seal) → Later w (aside w seats place saves seals open_place given)
 unfolding history
-later_aside w seats place saves seals open-place given = record {
+later_aside w seats place saves seals open_place given = record {
   rules = refl;
   marked = refl;
   issued = omega arith;
@@ -226,13 +226,13 @@ later_aside w seats place saves seals open-place given = record {
 }
 
 -- seats, cards and seals change, each of them by its rule; nothing is posted or logged
-pub aside_keeps : (kind : ℕ) (sealed : List Text) (w : World) (seats : List Seat) (place : ℕ → Option Card) (saves : Saves) (seals : ℕ → ℕ) (open-place : ℕ) (given : Text → Seal)
+pub aside_keeps : (kind : ℕ) (sealed : List Text) (w : World) (seats : List Seat) (place : ℕ → Option Card) (saves : Saves) (seals : ℕ → ℕ) (open_place : ℕ) (given : Text → Seal)
     → Holds kind sealed w → length seats ≡ length w.hall.seats
-    → ((q : ℕ) → q < w.hall.rules.replicas → CardOf kind (aside w seats place saves seals open-place given) q)
-    → ((c : ℕ) → 1 ≤ c → c ≤ w.hall.rules.clients → SeatRule kind (aside w seats place saves seals open-place given) c (get_or seats (c - 1) no_seat))
-    → Holds kind sealed (aside w seats place saves seals open-place given)
+    → ((q : ℕ) → q < w.hall.rules.replicas → CardOf kind (aside w seats place saves seals open_place given) q)
+    → ((c : ℕ) → 1 ≤ c → c ≤ w.hall.rules.clients → SeatRule kind (aside w seats place saves seals open_place given) c (get_or seats (c - 1) no_seat))
+    → Holds kind sealed (aside w seats place saves seals open_place given)
 unfolding later_aside history
-aside_keeps kind sealed w seats place saves seals open-place given holds same cards rules = record {
+aside_keeps kind sealed w seats place saves seals open_place given holds same cards rules = record {
   sized = let s = holds.sized in record {
     tables = ap (λ n. (eqb (places w.hall.post) w.hall.lengths.post && eqb (places w.hall.log) w.hall.lengths.log)
         && (eqb (places w.hall.roll) w.hall.lengths.roll && eqb n w.hall.rules.clients)) same ∙ s.tables;
@@ -247,29 +247,29 @@ aside_keeps kind sealed w seats place saves seals open-place given holds same ca
   answers = λ n lt. later_answer kind l (entry_of w.hall n) (holds.answers n lt);
   cards = cards;
   seats = rules;
-  log = log_later w (aside w seats place saves seals open-place given) l refl refl holds.log;
+  log = log_later w (aside w seats place saves seals open_place given) l refl refl holds.log;
   texts = λ t m. later_text kind l t (holds.texts t m);
 }
   where
-    l : Later w (aside w seats place saves seals open-place given)
-    l = later_aside w seats place saves seals open-place given
+    l : Later w (aside w seats place saves seals open_place given)
+    l = later_aside w seats place saves seals open_place given
 
 -- a seat that stays, of a client that keeps its seals
-pub seat_aside : (kind : ℕ) (sealed : List Text) (w : World) (seats : List Seat) (place : ℕ → Option Card) (saves : Saves) (seals : ℕ → ℕ) (open-place : ℕ) (given : Text → Seal)
+pub seat_aside : (kind : ℕ) (sealed : List Text) (w : World) (seats : List Seat) (place : ℕ → Option Card) (saves : Saves) (seals : ℕ → ℕ) (open_place : ℕ) (given : Text → Seal)
     → Holds kind sealed w → (c : ℕ) → 1 ≤ c → c ≤ w.hall.rules.clients → w.hall.seals c ≤ seals c
-    → SeatRule kind (aside w seats place saves seals open-place given) c (seat_of w.hall c)
+    → SeatRule kind (aside w seats place saves seals open_place given) c (seat_of w.hall c)
 unfolding later_aside history
-seat_aside kind sealed w seats place saves seals open-place given holds c low high more =
+seat_aside kind sealed w seats place saves seals open_place given holds c low high more =
     let s = holds.seats c low high in
-    later_seat kind c (seat_of w.hall c) (later_aside w seats place saves seals open-place given) done (λ busy. refl) (λ busy. seats_begin holds.log s busy)
+    later_seat kind c (seat_of w.hall c) (later_aside w seats place saves seals open_place given) done (λ busy. refl) (λ busy. seats_begin holds.log s busy)
     (λ k old new is. absurd (omega arith)) (λ k st is. record { logged = st.logged; writes = st.writes; stamped = st.stamped }) more s
 
 -- a card that stays
-pub card_aside : (kind : ℕ) (w : World) (seats : List Seat) (place : ℕ → Option Card) (saves : Saves) (seals : ℕ → ℕ) (open-place : ℕ) (given : Text → Seal)
-    (q : ℕ) (card : Card) → CardRule kind w q card → CardRule kind (aside w seats place saves seals open-place given) q card
+pub card_aside : (kind : ℕ) (w : World) (seats : List Seat) (place : ℕ → Option Card) (saves : Saves) (seals : ℕ → ℕ) (open_place : ℕ) (given : Text → Seal)
+    (q : ℕ) (card : Card) → CardRule kind w q card → CardRule kind (aside w seats place saves seals open_place given) q card
 unfolding later_aside history
-card_aside kind w seats place saves seals open-place given q card rule =
-    card_later (later_aside w seats place saves seals open-place given) (λ e t s. rule.served s) (λ r a s t. rule.stocked t) rule
+card_aside kind w seats place saves seals open_place given q card rule =
+    card_later (later_aside w seats place saves seals open_place given) (λ e t s. rule.served s) (λ r a s t. rule.stocked t) rule
 
 -- one card is replaced
 pub card_keeps : (kind : ℕ) (sealed : List Text) (w : World) (q : ℕ) (card : Card) (saves : Saves) → Holds kind sealed w
@@ -295,18 +295,18 @@ card_keeps kind sealed w q card saves holds rule =
     }
 
 -- seats change, each by its rule, and what is open is otherwise
-pub seats_keep : (kind : ℕ) (sealed : List Text) (w : World) (seats : List Seat) (open-place : ℕ) (given : Text → Seal)
+pub seats_keep : (kind : ℕ) (sealed : List Text) (w : World) (seats : List Seat) (open_place : ℕ) (given : Text → Seal)
     → Holds kind sealed w → length seats ≡ length w.hall.seats
-    → ((c : ℕ) → 1 ≤ c → c ≤ w.hall.rules.clients → SeatRule kind (aside w seats w.hall.place w.hall.saves w.hall.seals open-place given) c (get_or seats (c - 1) no_seat))
-    → Holds kind sealed (aside w seats w.hall.place w.hall.saves w.hall.seals open-place given)
-seats_keep kind sealed w seats open-place given holds same rules =
-    aside_keeps kind sealed w seats w.hall.place w.hall.saves w.hall.seals open-place given holds same
-    (λ q lt. let c = holds.cards q lt in record { card = c.card; kept = c.kept; rule = λ honest. card_aside kind w seats w.hall.place w.hall.saves w.hall.seals open-place given q c.card (c.rule honest) })
+    → ((c : ℕ) → 1 ≤ c → c ≤ w.hall.rules.clients → SeatRule kind (aside w seats w.hall.place w.hall.saves w.hall.seals open_place given) c (get_or seats (c - 1) no_seat))
+    → Holds kind sealed (aside w seats w.hall.place w.hall.saves w.hall.seals open_place given)
+seats_keep kind sealed w seats open_place given holds same rules =
+    aside_keeps kind sealed w seats w.hall.place w.hall.saves w.hall.seals open_place given holds same
+    (λ q lt. let c = holds.cards q lt in record { card = c.card; kept = c.kept; rule = λ honest. card_aside kind w seats w.hall.place w.hall.saves w.hall.seals open_place given q c.card (c.rule honest) })
     rules
 
 -- what store and sealer leave open does not matter
-pub open_keeps : (kind : ℕ) (sealed : List Text) (w : World) (open-place : ℕ) (given : Text → Seal) → Holds kind sealed w
-    → Holds kind sealed (record { hall = w.hall; next = open-place; genuine = w.genuine; given = given })
-open_keeps kind sealed w open-place given holds =
-    seats_keep kind sealed w w.hall.seats open-place given holds refl
-    (λ c low high. seat_aside kind sealed w w.hall.seats w.hall.place w.hall.saves w.hall.seals open-place given holds c low high (omega arith))
+pub open_keeps : (kind : ℕ) (sealed : List Text) (w : World) (open_place : ℕ) (given : Text → Seal) → Holds kind sealed w
+    → Holds kind sealed (record { hall = w.hall; next = open_place; genuine = w.genuine; given = given })
+open_keeps kind sealed w open_place given holds =
+    seats_keep kind sealed w w.hall.seats open_place given holds refl
+    (λ c low high. seat_aside kind sealed w w.hall.seats w.hall.place w.hall.saves w.hall.seals open_place given holds c low high (omega arith))

@@ -263,11 +263,11 @@ module _ (kind : ℕ) (sealed : List Text) (w : World) (small : kind ≤ 63) (ho
       (λ honest. owed_ack kind sealed w replica.number (entry_of w.hall n) mine.card holds (mine.rule honest) mine.kept s.epoch s.inside s.ready (write_posted k)
       (not_above (pair_of (entry_of w.hall n)) mine.card.pair (small_writer _ (pair_known k g)) (small_writer _ (mine.rule honest).known) lower))
       (unsaved w replica.number _ post place saves (moved_as place saves post _ _ is m).done)
-  by_move place saves post d m (takes k s g higher-one is) =
+  by_move place saves post d m (takes k s g higher_one is) =
       saves_and_posts (holding mine.card (pair_of (entry_of w.hall n))) _ place saves post refl
       (did_save w replica.number _ _ post place saves (moved_as place saves post _ _ is m).done)
       (λ honest. card_raised (pair_of (entry_of w.hall n))
-      (le_of_lt (above_higher (pair_of (entry_of w.hall n)) mine.card.pair (small_writer _ (pair_known k g)) (small_writer _ (mine.rule honest).known) higher-one))
+      (le_of_lt (above_higher (pair_of (entry_of w.hall n)) mine.card.pair (small_writer _ (pair_known k g)) (small_writer _ (mine.rule honest).known) higher_one))
       (pair_known k g) (genuine_at 2 k g) (mine.rule honest))
       (λ holds1 honest. owed_ack kind sealed (saved_in w (put w.hall.place replica.number (holding mine.card (pair_of (entry_of w.hall n)))) saves)
       replica.number (entry_of w.hall n) (holding mine.card (pair_of (entry_of w.hall n))) holds1

@@ -4,7 +4,7 @@ use Rattle.std.proofs.Common.{◌≡◌, ℕ, ◌+◌, ◌<◌, ◌≤◌, Bool,
 use Rattle.std.proofs.lemmas.Bool.Decides.{nat_tests}
 use Rattle.wire.specs.declared.entry.Entry.{Entry}
 use Rattle.wire.specs.declared.entry.EntryKind.{EntryKind}
-use Rattle.wire.specs.declared.entry.EntryKind.TheVariants.{Read, Write, Transfer, Pair as A-pair, Ack, Stock, Config, Behind}
+use Rattle.wire.specs.declared.entry.EntryKind.TheVariants.{Read, Write, Transfer, Pair as APair, Ack, Stock, Config, Behind}
 use Rattle.wire.specs.declared.party.Replica.{Replica}
 use Rattle.wire.specs.Entries.{kind_of, kind_number, pair_of, configuration_of}
 use Rattle.wire.specs.Sets.{member}
@@ -71,7 +71,7 @@ module _ (rules : Rules) (replica : Replica) (card : Card) (e : Entry) (genuine 
   serving_view answer p go =
       way (ltb e.epoch card.epoch) p
       (λ early p1. talks (record { entry = config_entry (party replica) (present card); sender = refl; kind_low = omega arith; decision = sym (ok_same p1) }))
-      (λ not-early p1. way (ltb card.epoch e.epoch) p1
+      (λ not_early p1. way (ltb card.epoch e.epoch) p1
       (λ late p2. talks (record { entry = behind_entry (party replica) e; sender = refl; kind_low = omega arith; decision = sym (ok_same p2) }))
       (λ not_late p2. way (not (is_member replica card)) p2
       (λ out p3. not_ok p3)
@@ -153,7 +153,7 @@ module _ (rules : Rules) (replica : Replica) (card : Card) (e : Entry) (genuine 
   kind_view (Some Read) is p = read_view (kind_known _ _ is) p
   kind_view (Some Write) is p = write_view (kind_known _ _ is) p
   kind_view (Some Transfer) is p = transfer_view (kind_known _ _ is) p
-  kind_view (Some A-pair) is p = not_ok p
+  kind_view (Some APair) is p = not_ok p
   kind_view (Some Ack) is p = not_ok p
   kind_view (Some Stock) is p = stock_view (kind_known _ _ is) p
   kind_view (Some Config) is p = config_view (kind_known _ _ is) p

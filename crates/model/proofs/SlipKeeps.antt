@@ -31,27 +31,27 @@ seat_same h c seat sized low high = let inside : c - 1 < length h.seats = omega 
 pub seat_other : (h : Hall) (c d : ℕ) (seat : Seat) → 1 ≤ c → 1 ≤ d → (d ≡ c → ⊥) → get_or (set h.seats (c - 1) seat) (d - 1) no_seat ≡ seat_of h d
 seat_other h c d seat low low' ne = get_or-set_other h.seats (c - 1) (d - 1) seat no_seat (λ e. ne (omega arith))
 
-pub one_seat_keeps : (kind : ℕ) (sealed : List Text) (w : World) (c : ℕ) (seat : Seat) (open-place : ℕ) (given : Text → Seal)
+pub one_seat_keeps : (kind : ℕ) (sealed : List Text) (w : World) (c : ℕ) (seat : Seat) (open_place : ℕ) (given : Text → Seal)
     → Holds kind sealed w → 1 ≤ c → c ≤ w.hall.rules.clients → SeatRule kind w c seat
-    → Holds kind sealed (aside w (set w.hall.seats (c - 1) seat) w.hall.place w.hall.saves w.hall.seals open-place given)
+    → Holds kind sealed (aside w (set w.hall.seats (c - 1) seat) w.hall.place w.hall.saves w.hall.seals open_place given)
 unfolding later_aside history
-one_seat_keeps kind sealed w c seat open-place given holds low high rule =
-    seats_keep kind sealed w (set w.hall.seats (c - 1) seat) open-place given holds (length-set w.hall.seats (c - 1) seat)
+one_seat_keeps kind sealed w c seat open_place given holds low high rule =
+    seats_keep kind sealed w (set w.hall.seats (c - 1) seat) open_place given holds (length-set w.hall.seats (c - 1) seat)
     (λ d low' high'. by_client d low' high' (ℕ_discrete d c))
   where
     world : World
-    world = aside w (set w.hall.seats (c - 1) seat) w.hall.place w.hall.saves w.hall.seals open-place given
+    world = aside w (set w.hall.seats (c - 1) seat) w.hall.place w.hall.saves w.hall.seals open_place given
 
     by_client : (d : ℕ) → 1 ≤ d → d ≤ w.hall.rules.clients → Dec (d ≡ c) → SeatRule kind world d (get_or (set w.hall.seats (c - 1) seat) (d - 1) no_seat)
     by_client d low' high' (yes e) =
         subst (λ z. SeatRule kind world z (get_or (set w.hall.seats (c - 1) seat) (z - 1) no_seat)) (sym e)
         (subst (λ s. SeatRule kind world c s) (sym (seat_same w.hall c seat holds.sized low high))
-        (later_seat kind c seat (later_aside w (set w.hall.seats (c - 1) seat) w.hall.place w.hall.saves w.hall.seals open-place given) done (λ busy. refl)
+        (later_seat kind c seat (later_aside w (set w.hall.seats (c - 1) seat) w.hall.place w.hall.saves w.hall.seals open_place given) done (λ busy. refl)
         (λ busy. (holds.log.each _ (rule.own busy).logged).began_by)
         (λ k old new is. absurd (omega arith)) (λ k st is. record { logged = st.logged; writes = st.writes; stamped = st.stamped }) (omega arith) rule))
     by_client d low' high' (no ne) =
         subst (λ s. SeatRule kind world d s) (sym (seat_other w.hall c d seat low low' ne))
-        (seat_aside kind sealed w (set w.hall.seats (c - 1) seat) w.hall.place w.hall.saves w.hall.seals open-place given holds d low' high' (omega arith))
+        (seat_aside kind sealed w (set w.hall.seats (c - 1) seat) w.hall.place w.hall.saves w.hall.seals open_place given holds d low' high' (omega arith))
 
 -- an idle seat is bound by little
 pub freed_rule : {kind : ℕ} {w : World} {c : ℕ} {seat : Seat} → SeatRule kind w c seat → SeatRule kind w c (freed seat)

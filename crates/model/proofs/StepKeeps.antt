@@ -8,7 +8,7 @@ use Rattle.wire.specs.declared.pair.Configuration.{Configuration}
 use Rattle.wire.specs.declared.pair.Seal.{Seal}
 use Rattle.wire.specs.declared.party.Client.{Client}
 use Rattle.wire.specs.declared.party.Party.{Party}
-use Rattle.wire.specs.declared.party.Party.TheVariants.{Source as The-source, Client as A-client, Replica as A-replica}
+use Rattle.wire.specs.declared.party.Party.TheVariants.{Source as TheSource, Client as AClient, Replica as AReplica}
 use Rattle.wire.specs.declared.party.Replica.{Replica}
 use Rattle.wire.specs.declared.set.ReplicaSet.{ReplicaSet}
 use Rattle.wire.specs.declared.text.Text.{Text}
@@ -19,8 +19,8 @@ use Rattle.clients.specs.declared.line.Line.{Line}
 use Rattle.clients.specs.declared.line.Stage.{Stage}
 use Rattle.clients.specs.declared.line.Stage.TheVariants.{Idle, Reading, Writing, WritingBack, Over}
 use Rattle.clients.specs.Lines.{is_idle}
-use Rattle.clients.specs.Steps.{Stepped as Client-stepped}
-use Rattle.replicas.specs.Steps.{Stepped as Replica-stepped}
+use Rattle.clients.specs.Steps.{Stepped as ClientStepped}
+use Rattle.replicas.specs.Steps.{Stepped as ReplicaStepped}
 use Rattle.source.specs.Issued.{signing, next_text}
 use Rattle.model.specs.Tables.{is_full}
 use Rattle.model.specs.Halls.{Hall, World, Kind, seat_of, has_its_tables, party_in, with_seat, with_store}
@@ -75,9 +75,9 @@ module _ {V : Type 0} (kind : Kind V) (sealed : List Text) (w : World) (holds : 
     where
       by_party : (o : Option Party) → party_in w.hall.rules party ≡ o → meddle_by o w.hall party e ≡ record { answer = a; hall = h' } → Holds kind.number sealed (in_hall w h')
       by_party None is q = unmoved h' q
-      by_party (Some The-source) is q = unmoved h' q
-      by_party (Some (A-client client)) is q = unmoved h' q
-      by_party (Some (A-replica r)) is q =
+      by_party (Some TheSource) is q = unmoved h' q
+      by_party (Some (AClient client)) is q = unmoved h' q
+      by_party (Some (AReplica r)) is q =
           way (not (member w.hall.marked r.number)) q (λ t s. unmoved h' s)
           (λ t s. way (is_full w.hall.post) s (λ u z. unmoved h' z)
           (λ u z. subst (λ h. Holds kind.number sealed (in_hall w h)) (became z)
@@ -143,7 +143,7 @@ module _ {V : Type 0} (kind : Kind V) (sealed : List Text) (w : World) (holds : 
       way (has_its_tables w.hall) p (λ t q. by_party (party_in w.hall.rules n) refl q) (λ t q. unmoved h' q)
     where
       as_client : (client : Client) → 1 ≤ client.number → client.number ≤ w.hall.rules.clients
-          → begin_by (Some (A-client client)) client.number w.hall word ≡ record { answer = a; hall = h' } → Holds kind.number sealed (in_hall w h')
+          → begin_by (Some (AClient client)) client.number w.hall word ≡ record { answer = a; hall = h' } → Holds kind.number sealed (in_hall w h')
       as_client client low high q =
           way (not (is_idle (seat_of w.hall client.number).line.stage)) q (λ t s. unmoved h' s)
           (λ idle s. way (is_full w.hall.log || (is_full w.hall.post || not (has_moment w.hall))) s (λ t z. unmoved h' z)
@@ -164,12 +164,12 @@ module _ {V : Type 0} (kind : Kind V) (sealed : List Text) (w : World) (holds : 
 
       by_party : (o : Option Party) → party_in w.hall.rules n ≡ o → begin_by o n w.hall word ≡ record { answer = a; hall = h' } → Holds kind.number sealed (in_hall w h')
       by_party None is q = unmoved h' q
-      by_party (Some The-source) is q = unmoved h' q
-      by_party (Some (A-replica r)) is q = unmoved h' q
-      by_party (Some (A-client client)) is q =
+      by_party (Some TheSource) is q = unmoved h' q
+      by_party (Some (AReplica r)) is q = unmoved h' q
+      by_party (Some (AClient client)) is q =
           let c = client_in w.hall.rules n client is in
           as_client client (subst (λ m. 1 ≤ m) (sym c.number) c.low) (subst (λ m. m ≤ w.hall.rules.clients) (sym c.number) c.high)
-          (subst (λ m. begin_by (Some (A-client client)) m w.hall word ≡ record { answer = a; hall = h' }) (sym c.number) q)
+          (subst (λ m. begin_by (Some (AClient client)) m w.hall word ≡ record { answer = a; hall = h' }) (sym c.number) q)
 
   -- a world with this hall and these genuine seals
   abbrev with_seals_of : Hall → (Text → Seal → Bool) → World
@@ -222,9 +222,9 @@ module _ {V : Type 0} (kind : Kind V) (sealed : List Text) (w : World) (holds : 
 
   -- nothing was sealed where the line of the party stayed
   line_stayed : (l : Line) (h' : Hall) (genuine : Text → Seal → Bool) → Holds kind.number sealed (in_hall w h') → AfterStep l l h' genuine
-  line_stayed l h' genuine done-so =
+  line_stayed l h' genuine done_so =
       subst (λ t. GenuineThen t w genuine → Holds kind.number (sealed_with t sealed) (with_seals_of h' genuine)) (sym (stamps_not kind.number l))
-      (λ same. subst (λ q. Holds kind.number sealed (with_seals_of h' q)) (sym same) done-so)
+      (λ same. subst (λ q. Holds kind.number sealed (with_seals_of h' q)) (sym same) done_so)
 
   deliver_step : kind.number ≤ 63 → UnforgedNow kind.number sealed w → (number party : ℕ) (a : Answer V) (h' : Hall) (genuine : Text → Seal → Bool)
       → deliver_called w kind.number number party ≡ record { answer = a; hall = h' }
@@ -244,7 +244,7 @@ module _ {V : Type 0} (kind : Kind V) (sealed : List Text) (w : World) (holds : 
 
       to_replica : (r : Replica) → ReplicaIn w.hall.rules party r → number < length w.hall.post.list → is_full w.hall.post ≡ false
           → fits_replica (kind_of (entry_of w.hall number).kind) (entry_of w.hall number) r ≡ true
-          → (s : Replica-stepped) → replica_step_of w kind.number r (entry_of w.hall number) ≡ s → replica_done s number w.hall ≡ record { answer = a; hall = h' }
+          → (s : ReplicaStepped) → replica_step_of w kind.number r (entry_of w.hall number) ≡ s → replica_done s number w.hall ≡ record { answer = a; hall = h' }
           → AfterStep (seat_of w.hall party).line (seat_of h' party).line h' genuine
       to_replica r inside lt room fits s is q = by_answer s.answer refl q
         where
@@ -258,12 +258,12 @@ module _ {V : Type 0} (kind : Kind V) (sealed : List Text) (w : World) (holds : 
             where
               by_post : (o : Option Entry) → Holds kind.number sealed (replica_world w s.place s.saves o)
                   → AfterStep (seat_of w.hall party).line (seat_of (posting (with_store w.hall s.place s.saves) o) party).line (posting (with_store w.hall s.place s.saves) o) genuine
-              by_post None done-so = line_stayed (seat_of w.hall party).line (posting (with_store w.hall s.place s.saves) None) genuine done-so
-              by_post (Some x) done-so = line_stayed (seat_of w.hall party).line (posting (with_store w.hall s.place s.saves) (Some x)) genuine done-so
+              by_post None done_so = line_stayed (seat_of w.hall party).line (posting (with_store w.hall s.place s.saves) None) genuine done_so
+              by_post (Some x) done_so = line_stayed (seat_of w.hall party).line (posting (with_store w.hall s.place s.saves) (Some x)) genuine done_so
 
       to_client : (client : Client) → 1 ≤ client.number → client.number ≤ w.hall.rules.clients → client.number ≡ party → number < length w.hall.post.list → is_full w.hall.post ≡ false → has_moment w.hall ≡ true
           → fits_client (kind_of (entry_of w.hall number).kind) (entry_of w.hall number) client ≡ true
-          → (s : Client-stepped) → client_step_of w kind.number client (entry_of w.hall number) ≡ s → client_done s number w.hall client ≡ record { answer = a; hall = h' }
+          → (s : ClientStepped) → client_step_of w kind.number client (entry_of w.hall number) ≡ s → client_done s number w.hall client ≡ record { answer = a; hall = h' }
           → AfterStep (seat_of w.hall party).line (seat_of h' party).line h' genuine
       to_client client low high named lt room moment fits s is q = by_answer s.answer refl q
         where
@@ -285,15 +285,15 @@ module _ {V : Type 0} (kind : Kind V) (sealed : List Text) (w : World) (holds : 
       by_party : number < length w.hall.post.list → (o : Option Party) → party_in w.hall.rules party ≡ o → deliver_to o w kind.number number (entry_of w.hall number) ≡ record { answer = a; hall = h' }
           → AfterStep (seat_of w.hall party).line (seat_of h' party).line h' genuine
       by_party lt None is q = stayed q
-      by_party lt (Some The-source) is q = way (is_full w.hall.post || not (has_moment w.hall)) q (λ u s. stayed s) (λ u s. stayed s)
-      by_party lt (Some (A-client client)) is q =
+      by_party lt (Some TheSource) is q = way (is_full w.hall.post || not (has_moment w.hall)) q (λ u s. stayed s) (λ u s. stayed s)
+      by_party lt (Some (AClient client)) is q =
           let c = client_in w.hall.rules party client is in
           way (is_full w.hall.post || not (has_moment w.hall)) q (λ u s. stayed s)
           (λ room s. way (not (fits_client (kind_of (entry_of w.hall number).kind) (entry_of w.hall number) client)) s (λ u z. stayed z)
           (λ fits z. let r = neither (is_full w.hall.post) (not (has_moment w.hall)) room in
           to_client client (subst (λ m. 1 ≤ m) (sym c.number) c.low) (subst (λ m. m ≤ w.hall.rules.clients) (sym c.number) c.high) c.number lt r.0 (not-false _ r.1) (not-false _ fits)
           (client_step_of w kind.number client (entry_of w.hall number)) refl z))
-      by_party lt (Some (A-replica r)) is q =
+      by_party lt (Some (AReplica r)) is q =
           way (is_full w.hall.post || not (has_moment w.hall)) q (λ u s. stayed s)
           (λ room s. way (not (fits_replica (kind_of (entry_of w.hall number).kind) (entry_of w.hall number) r)) s (λ u z. stayed z)
           (λ fits z. let o = neither (is_full w.hall.post) (not (has_moment w.hall)) room in

@@ -17,7 +17,7 @@ use Rattle.model.specs.Runs.{Lawful, Opened, Run, Unforged}
 use Rattle.model.specs.Slips.{collecting, is_its_slip}
 use Rattle.model.proofs.Events.{Event, nothing, begins, ends, BegunLog, EndedLog, BeginCall, by_read, by_write, begins_slip, slips, event_of}
 use Rattle.model.proofs.Growing.{Grows, grows_same, grows_trans, event_grows, ended_logged}
-use Rattle.model.proofs.Invariants.{KnownPair, the_opening, a_write as of-a-write, Holds}
+use Rattle.model.proofs.Invariants.{KnownPair, the_opening, a_write as of_a_write, Holds}
 use Rattle.model.proofs.RunKeeps.{sealed_at, holds_at}
 use Rattle.model.proofs.Ways.{way_in, both, not-false, not_some}
 
@@ -237,7 +237,7 @@ module _ {V : Type 0} (kind : Kind V) (v : V) (start : World) (lawful : Lawful k
   -- the pair of an operation that has ended, or of a stamped write, is a value's
   pub known_valued : (i : ℕ) (le : i ≤ run.calls) (p : Pair) → KnownPair (hall_at i) p → Valued p.word
   known_valued i le p (the_opening count writer word) = valued_word v p.word (word ∙ ap (λ r. r.opening) (opening_stays i le) ∙ opened.opening)
-  known_valued i le p (of-a-write k s stamp word) = by_word f.word refl f.start_of.call
+  known_valued i le p (of_a_write k s stamp word) = by_word f.word refl f.start_of.call
     where
       f : FoundStart i k
       f = found_start i le k s.logged
@@ -294,14 +294,14 @@ module _ {V : Type 0} (kind : Kind V) (v : V) (start : World) (lawful : Lawful k
           let b = both (not (is_idle (seat_of (hall_at i) c).line.stage)) (eqb (seat_of (hall_at i) c).operation k) a.second in
           let low = leb-true _ _ r.first in
           let high = leb-true _ _ r.second in
-          let k-is = eqb-true _ _ b.second in
+          let k_is = eqb-true _ _ b.second in
           let mine = (holds i le).seats c low high in
           let stage = over_is _ over in
           record {
             low = low;
             high = high;
-            over = subst (λ m. 0 < (operation_of (hall_at i) m).ended) k-is (mine.over_ended stage);
-            value = ap (λ m. kind.value (operation_of (hall_at i) m).pair.word) (sym k-is) ∙ ap (λ p. kind.value p.word) (mine.over_pair stage) ∙ is ∙ z;
+            over = subst (λ m. 0 < (operation_of (hall_at i) m).ended) k_is (mine.over_ended stage);
+            value = ap (λ m. kind.value (operation_of (hall_at i) m).pair.word) (sym k_is) ∙ ap (λ p. kind.value p.word) (mine.over_pair stage) ∙ is ∙ z;
           }
 
   -- collect answers nothing as long as the operation has not ended

@@ -4,13 +4,13 @@ use Rattle.kinds.specs.declared.word.Word.{Word}
 use Rattle.wire.specs.declared.entry.Entry.{Entry}
 use Rattle.wire.specs.declared.party.Client.{Client}
 use Rattle.wire.specs.declared.party.Party.{Party}
-use Rattle.wire.specs.declared.party.Party.TheVariants.{Source as The-source, Client as A-client, Replica as A-replica}
+use Rattle.wire.specs.declared.party.Party.TheVariants.{Source as TheSource, Client as AClient, Replica as AReplica}
 use Rattle.clients.specs.declared.fault.ClientFault.{ClientFault}
 use Rattle.clients.specs.declared.fault.ClientFault.TheVariants.{Busy}
 use Rattle.clients.specs.declared.line.Line.{Line}
 use Rattle.clients.specs.Lines.{is_idle}
 use Rattle.clients.specs.Steps.{Begun, begun}
-use Rattle.halls.specs.declared.fault.HallFault.TheVariants.{NoSuch, Full, Client as Of-client}
+use Rattle.halls.specs.declared.fault.HallFault.TheVariants.{NoSuch, Full, Client as OfClient}
 use Rattle.halls.specs.declared.operation.Operation.{Operation}
 use Rattle.model.specs.Tables.{is_full, added}
 use Rattle.model.specs.Halls.{Hall, World, seat_of, party_in, with_post, with_seat, with_log}
@@ -39,17 +39,17 @@ beginning (Ok read) line client word h =
     (record { line = line; operation = length h.log.list; lodged = (seat_of h client.number).lodged }))
     (added h.log (new_operation client.number word (h.moment + 1)))
     (h.moment + 1))
-beginning (Err fault) line client word h = refuses (Of-client fault) h
+beginning (Err fault) line client word h = refuses (OfClient fault) h
 
 abbrev pub begin_done : {V : Type 0} → Begun → Client → Option Word → Hall → Outcome V
 begin_done b client word h = beginning b.answer b.line client word h
 
 abbrev pub begin_by : {V : Type 0} → Option Party → ℕ → Hall → Option Word → Outcome V
 begin_by None n h word = refuses (NoSuch n) h
-begin_by (Some The-source) n h word = refuses (NoSuch n) h
-begin_by (Some (A-replica r)) n h word = refuses (NoSuch n) h
-begin_by (Some (A-client client)) n h word =
-    cond (not (is_idle (seat_of h n).line.stage)) (refuses (Of-client (Busy client)) h)
+begin_by (Some TheSource) n h word = refuses (NoSuch n) h
+begin_by (Some (AReplica r)) n h word = refuses (NoSuch n) h
+begin_by (Some (AClient client)) n h word =
+    cond (not (is_idle (seat_of h n).line.stage)) (refuses (OfClient (Busy client)) h)
     (cond (is_full h.log || (is_full h.post || not (has_moment h))) (refuses (Full n) h)
     (begin_done (begun client (seat_of h n).line word h.seals) client word h))
 

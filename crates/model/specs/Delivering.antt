@@ -2,10 +2,10 @@
 use Rattle.std.specs.Prelude.{ℕ, ◌+◌, Bool, true, false, cond, not, ◌&&◌, ◌||◌, length, Some, None, Ok, Err, Option, Result, ◌==◌, nat_le, nat_lt, slice_index_or, slice_set}
 use Rattle.wire.specs.declared.entry.Entry.{Entry}
 use Rattle.wire.specs.declared.entry.EntryKind.{EntryKind}
-use Rattle.wire.specs.declared.entry.EntryKind.TheVariants.{Read, Write, Transfer, Pair as A-pair, Ack, Stock, Config, Behind}
+use Rattle.wire.specs.declared.entry.EntryKind.TheVariants.{Read, Write, Transfer, Pair as APair, Ack, Stock, Config, Behind}
 use Rattle.wire.specs.declared.party.Client.{Client}
 use Rattle.wire.specs.declared.party.Party.{Party}
-use Rattle.wire.specs.declared.party.Party.TheVariants.{Source as The-source, Client as A-client, Replica as A-replica}
+use Rattle.wire.specs.declared.party.Party.TheVariants.{Source as TheSource, Client as AClient, Replica as AReplica}
 use Rattle.wire.specs.declared.party.Replica.{Replica}
 use Rattle.wire.specs.Entries.{kind_of}
 use Rattle.stores.specs.declared.card.Card.{Card}
@@ -14,11 +14,11 @@ use Rattle.clients.specs.declared.fault.ClientFault.{ClientFault}
 use Rattle.clients.specs.declared.line.Line.{Line}
 use Rattle.clients.specs.declared.line.Stage.{Stage}
 use Rattle.clients.specs.declared.line.Stage.TheVariants.{Idle, Reading, Writing, WritingBack, Over}
-use Rattle.clients.specs.Steps.{client_stepped, Desk, Stepped as Client-stepped}
+use Rattle.clients.specs.Steps.{client_stepped, Desk, Stepped as ClientStepped}
 use Rattle.replicas.specs.declared.fault.ReplicaFault.{ReplicaFault}
-use Rattle.replicas.specs.Steps.{replica_stepped, Shelf, Stepped as Replica-stepped}
+use Rattle.replicas.specs.Steps.{replica_stepped, Shelf, Stepped as ReplicaStepped}
 use Rattle.halls.specs.declared.fault.HallFault.TheVariants.{NoSuch, Full, Unfit, Step}
-use Rattle.halls.specs.declared.fault.StepFault.TheVariants.{Client as By-client, Replica as By-replica}
+use Rattle.halls.specs.declared.fault.StepFault.TheVariants.{Client as ByClient, Replica as ByReplica}
 use Rattle.halls.specs.declared.operation.Operation.{Operation}
 use Rattle.halls.specs.declared.seat.Seat.{Seat}
 use Rattle.model.specs.Tables.{Table, is_full, added}
@@ -39,7 +39,7 @@ fits_client None e client = false
 fits_client (Some Read) e client = false
 fits_client (Some Write) e client = false
 fits_client (Some Transfer) e client = false
-fits_client (Some A-pair) e client = is_replica_number e.sender && e.addressee == client.number
+fits_client (Some APair) e client = is_replica_number e.sender && e.addressee == client.number
 fits_client (Some Ack) e client = is_replica_number e.sender && e.addressee == client.number
 fits_client (Some Stock) e client = false
 fits_client (Some Config) e client = true
@@ -50,7 +50,7 @@ fits_replica None e replica = false
 fits_replica (Some Read) e replica = is_client_number e.sender
 fits_replica (Some Write) e replica = is_client_number e.sender
 fits_replica (Some Transfer) e replica = is_replica_number e.sender
-fits_replica (Some A-pair) e replica = false
+fits_replica (Some APair) e replica = false
 fits_replica (Some Ack) e replica = false
 fits_replica (Some Stock) e replica = is_replica_number e.sender && e.addressee == 100 + replica.number
 fits_replica (Some Config) e replica = true
@@ -110,18 +110,18 @@ client_moves h c seat line post seals =
     post
 
 abbrev pub by_client : {V : Type 0} → Result (Option Entry) ClientFault → Line → (ℕ → ℕ) → ℕ → Hall → Client → Outcome V
-by_client (Err fault) line seals number h client = refuses (Step number (By-client fault)) h
+by_client (Err fault) line seals number h client = refuses (Step number (ByClient fault)) h
 by_client (Ok post) line seals number h client =
     answers done (client_moves h client.number (seat_of h client.number) line post seals)
 
-abbrev pub client_done : {V : Type 0} → Client-stepped → ℕ → Hall → Client → Outcome V
+abbrev pub client_done : {V : Type 0} → ClientStepped → ℕ → Hall → Client → Outcome V
 client_done s number h client = by_client s.answer s.line s.seals number h client
 
 abbrev pub by_replica : {V : Type 0} → Result (Option Entry) ReplicaFault → (ℕ → Option Card) → Saves → ℕ → Hall → Outcome V
-by_replica (Err fault) place saves number h = refuses (Step number (By-replica fault)) h
+by_replica (Err fault) place saves number h = refuses (Step number (ByReplica fault)) h
 by_replica (Ok post) place saves number h = answers done (posting (with_store h place saves) post)
 
-abbrev pub replica_done : {V : Type 0} → Replica-stepped → ℕ → Hall → Outcome V
+abbrev pub replica_done : {V : Type 0} → ReplicaStepped → ℕ → Hall → Outcome V
 replica_done s number h = by_replica s.answer s.place s.saves number h
 
 -- the meanings of store and sealer, as the steps take them
@@ -132,24 +132,24 @@ abbrev pub desk_of : World → Desk
 desk_of w = record { genuine = w.genuine; seals = w.hall.seals; given = w.given }
 
 -- the client's step on an entry
-abbrev pub client_step_of : World → ℕ → Client → Entry → Client-stepped
+abbrev pub client_step_of : World → ℕ → Client → Entry → ClientStepped
 client_step_of w kind client e = client_stepped w.hall.rules kind (desk_of w) client (seat_of w.hall client.number).line e
 
 -- the replica's step on an entry
-abbrev pub replica_step_of : World → ℕ → Replica → Entry → Replica-stepped
+abbrev pub replica_step_of : World → ℕ → Replica → Entry → ReplicaStepped
 replica_step_of w kind replica e = replica_stepped w.hall.rules kind w.genuine (shelf_of w) replica e
 
 -- the entry is handed to the party, if the post has room and the two fit
 abbrev pub deliver_to : {V : Type 0} → Option Party → World → ℕ → ℕ → Entry → Outcome V
 deliver_to None w kind number e = refuses (NoSuch number) w.hall
-deliver_to (Some The-source) w kind number e =
+deliver_to (Some TheSource) w kind number e =
     cond (is_full w.hall.post || not (has_moment w.hall)) (refuses (Full number) w.hall)
     (refuses (Unfit number) w.hall)
-deliver_to (Some (A-client client)) w kind number e =
+deliver_to (Some (AClient client)) w kind number e =
     cond (is_full w.hall.post || not (has_moment w.hall)) (refuses (Full number) w.hall)
     (cond (not (fits_client (kind_of e.kind) e client)) (refuses (Unfit number) w.hall)
     (client_done (client_step_of w kind client e) number w.hall client))
-deliver_to (Some (A-replica replica)) w kind number e =
+deliver_to (Some (AReplica replica)) w kind number e =
     cond (is_full w.hall.post || not (has_moment w.hall)) (refuses (Full number) w.hall)
     (cond (not (fits_replica (kind_of e.kind) e replica)) (refuses (Unfit number) w.hall)
     (replica_done (replica_step_of w kind replica e) number w.hall))

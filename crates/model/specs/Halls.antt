@@ -5,7 +5,7 @@ use Rattle.wire.specs.declared.entry.Entry.{Entry}
 use Rattle.wire.specs.declared.pair.Configuration.{Configuration}
 use Rattle.wire.specs.declared.pair.Seal.{Seal}
 use Rattle.wire.specs.declared.party.Party.{Party}
-use Rattle.wire.specs.declared.party.Party.TheVariants.{Source as The-source, Client as A-client, Replica as A-replica}
+use Rattle.wire.specs.declared.party.Party.TheVariants.{Source as TheSource, Client as AClient, Replica as AReplica}
 use Rattle.wire.specs.declared.text.Text.{Text}
 use Rattle.wire.specs.Parties.{party_of}
 use Rattle.stores.specs.declared.card.Card.{Card}
@@ -106,9 +106,9 @@ operation_of h k = slice_index_or h.log.list k no_operation
 
 abbrev pub party_within : Rules → Option Party → Option Party
 party_within rules None = None
-party_within rules (Some The-source) = Some The-source
-party_within rules (Some (A-client c)) = cond (nat_le c.number rules.clients) (Some (A-client c)) None
-party_within rules (Some (A-replica r)) = cond (nat_lt r.number rules.replicas) (Some (A-replica r)) None
+party_within rules (Some TheSource) = Some TheSource
+party_within rules (Some (AClient c)) = cond (nat_le c.number rules.clients) (Some (AClient c)) None
+party_within rules (Some (AReplica r)) = cond (nat_lt r.number rules.replicas) (Some (AReplica r)) None
 
 -- the party of this number, if it is one of the hall
 abbrev pub party_in : Rules → ℕ → Option Party

@@ -7,7 +7,7 @@ use Rattle.rules.specs.Posts.{config_entry}
 use Rattle.source.specs.declared.fault.SourceFault.{SourceFault}
 use Rattle.source.specs.declared.state.Source.{Source}
 use Rattle.source.specs.Issued.{Issued, issued}
-use Rattle.halls.specs.declared.fault.HallFault.TheVariants.{WrongSet, TooManyMarked, Full, Source as Of-source}
+use Rattle.halls.specs.declared.fault.HallFault.TheVariants.{WrongSet, TooManyMarked, Full, Source as OfSource}
 use Rattle.model.specs.Tables.{is_full, added}
 use Rattle.model.specs.Halls.{Hall, World, with_post, with_seals, with_source}
 use Rattle.model.specs.Answers.{Outcome, done, refuses, answers, with_its_tables}
@@ -24,7 +24,7 @@ has_too_many_marked rules marked set = not (nat_le (count_ones (bit_and set mark
 abbrev pub issuing : {V : Type 0} → Result Configuration SourceFault → Source → (ℕ → ℕ) → Hall → Outcome V
 issuing (Ok c) source seals h =
     answers done (with_seals (with_source (with_post h (added h.post (config_entry 0 c))) source (added h.roll c)) seals)
-issuing (Err fault) source seals h = refuses (Of-source fault) h
+issuing (Err fault) source seals h = refuses (OfSource fault) h
 
 abbrev pub issue_done : {V : Type 0} → Issued → Hall → Outcome V
 issue_done i h = issuing i.answer i.source i.seals h

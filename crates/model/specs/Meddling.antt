@@ -2,7 +2,7 @@
 use Rattle.std.specs.Prelude.{ℕ, cond, not, Some, None, Option}
 use Rattle.wire.specs.declared.entry.Entry.{Entry}
 use Rattle.wire.specs.declared.party.Party.{Party}
-use Rattle.wire.specs.declared.party.Party.TheVariants.{Source as The-source, Client as A-client, Replica as A-replica}
+use Rattle.wire.specs.declared.party.Party.TheVariants.{Source as TheSource, Client as AClient, Replica as AReplica}
 use Rattle.wire.specs.Sets.{member}
 use Rattle.halls.specs.declared.fault.HallFault.TheVariants.{NoSuch, Full, NotMarked}
 use Rattle.model.specs.Tables.{is_full, added}
@@ -25,9 +25,9 @@ sent_by party e = record {
 
 abbrev pub meddle_by : {V : Type 0} → Option Party → Hall → ℕ → Entry → Outcome V
 meddle_by None h party e = refuses (NoSuch party) h
-meddle_by (Some The-source) h party e = refuses (NotMarked party) h
-meddle_by (Some (A-client client)) h party e = refuses (NotMarked party) h
-meddle_by (Some (A-replica replica)) h party e =
+meddle_by (Some TheSource) h party e = refuses (NotMarked party) h
+meddle_by (Some (AClient client)) h party e = refuses (NotMarked party) h
+meddle_by (Some (AReplica replica)) h party e =
     cond (not (member h.marked replica.number)) (refuses (NotMarked party) h)
     (cond (is_full h.post) (refuses (Full party) h)
     (answers done (with_post h (added h.post (sent_by party e)))))

@@ -3,7 +3,7 @@ use Rattle.std.specs.Prelude.{◌≡◌, ℕ, ◌+◌, ◌<◌, ◌≤◌, true,
 use Rattle.kinds.specs.declared.word.Word.{Word}
 use Rattle.wire.specs.declared.entry.Entry.{Entry}
 use Rattle.wire.specs.declared.entry.EntryKind.{EntryKind}
-use Rattle.wire.specs.declared.entry.EntryKind.TheVariants.{Read, Write, Transfer, Pair as A-pair, Ack, Stock, Config, Behind}
+use Rattle.wire.specs.declared.entry.EntryKind.TheVariants.{Read, Write, Transfer, Pair as APair, Ack, Stock, Config, Behind}
 use Rattle.wire.specs.declared.text.Text.{Text}
 use Rattle.wire.specs.Entries.{kind_of, pair_of, configuration_of}
 use Rattle.wire.specs.Sets.{member}
@@ -77,7 +77,7 @@ text_by_kind None kind e = None
 text_by_kind (Some Read) kind e = None
 text_by_kind (Some Write) kind e = Some (pair_text kind (pair_of e))
 text_by_kind (Some Transfer) kind e = Some (configuration_text (configuration_of e))
-text_by_kind (Some A-pair) kind e = Some (pair_text kind (pair_of e))
+text_by_kind (Some APair) kind e = Some (pair_text kind (pair_of e))
 text_by_kind (Some Ack) kind e = None
 text_by_kind (Some Stock) kind e = Some (pair_text kind (pair_of e))
 text_by_kind (Some Config) kind e = Some (configuration_text (configuration_of e))

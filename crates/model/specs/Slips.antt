@@ -5,7 +5,7 @@ use Rattle.wire.specs.declared.pair.Pair.{Pair}
 use Rattle.clients.specs.declared.line.Line.{Line}
 use Rattle.clients.specs.declared.line.Stage.TheVariants.{Idle}
 use Rattle.clients.specs.Lines.{is_idle}
-use Rattle.halls.specs.declared.fault.HallFault.TheVariants.{NotItsSlip, NotNow, Kind as Of-kind}
+use Rattle.halls.specs.declared.fault.HallFault.TheVariants.{NotItsSlip, NotNow, Kind as OfKind}
 use Rattle.halls.specs.declared.seat.Seat.{Seat}
 use Rattle.model.specs.Delivering.{is_over}
 use Rattle.model.specs.Halls.{Hall, World, Kind, seat_of, with_seat}
@@ -45,7 +45,7 @@ call_off_called w c k =
     (answers done (with_seat w.hall c (freed (seat_of w.hall c))))))
 
 abbrev pub collecting : {V : Type 0} → Option V → Hall → ℕ → Pair → Outcome V
-collecting None h c p = refuses (Of-kind NoValue) h
+collecting None h c p = refuses (OfKind NoValue) h
 collecting (Some v) h c p = answers (pair p v) (with_seat h c (freed (seat_of h c)))
 
 -- collect: once it is over; pair and value of the operation

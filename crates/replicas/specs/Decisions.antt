@@ -3,7 +3,7 @@
 use Rattle.std.specs.Prelude.{ℕ, ◌+◌, Bool, false, cond, not, ◌&&◌, Some, None, Ok, Err, Option, Result, ◌==◌, count_ones, nat_le, nat_lt}
 use Rattle.wire.specs.declared.entry.Entry.{Entry}
 use Rattle.wire.specs.declared.entry.EntryKind.{EntryKind}
-use Rattle.wire.specs.declared.entry.EntryKind.TheVariants.{Read, Write, Transfer, Pair as A-pair, Ack, Stock, Config, Behind}
+use Rattle.wire.specs.declared.entry.EntryKind.TheVariants.{Read, Write, Transfer, Pair as APair, Ack, Stock, Config, Behind}
 use Rattle.wire.specs.declared.pair.Configuration.{Configuration}
 use Rattle.wire.specs.declared.pair.Pair.{Pair}
 use Rattle.wire.specs.declared.party.Replica.{Replica}
@@ -149,7 +149,7 @@ decided_by_kind None rules replica card e genuine = Err NotAwaited
 decided_by_kind (Some Read) rules replica card e genuine = on_read replica card e
 decided_by_kind (Some Write) rules replica card e genuine = on_write replica card e genuine
 decided_by_kind (Some Transfer) rules replica card e genuine = on_transfer replica card e genuine
-decided_by_kind (Some A-pair) rules replica card e genuine = Err NotAwaited
+decided_by_kind (Some APair) rules replica card e genuine = Err NotAwaited
 decided_by_kind (Some Ack) rules replica card e genuine = Err NotAwaited
 decided_by_kind (Some Stock) rules replica card e genuine = on_stock rules replica card e genuine
 decided_by_kind (Some Config) rules replica card e genuine = on_config replica card e genuine

@@ -2,7 +2,7 @@
 use Rattle.std.specs.Prelude.{ℕ, ◌+◌, ◌*◌, Bool, true, ◌&&◌, ◌||◌, Some, None, Option, ◌==◌, nat_le}
 use Rattle.wire.specs.declared.entry.Entry.{Entry}
 use Rattle.wire.specs.declared.entry.EntryKind.{EntryKind}
-use Rattle.wire.specs.declared.entry.EntryKind.TheVariants.{Read, Write, Transfer, Pair as A-pair, Ack, Stock, Config, Behind}
+use Rattle.wire.specs.declared.entry.EntryKind.TheVariants.{Read, Write, Transfer, Pair as APair, Ack, Stock, Config, Behind}
 use Rattle.wire.specs.declared.pair.Configuration.{Configuration}
 use Rattle.wire.specs.declared.pair.Pair.{Pair}
 use Rattle.wire.specs.declared.pair.Seal.{Seal}
@@ -53,7 +53,7 @@ genuine_by_kind None rules kind checks e = true
 genuine_by_kind (Some Read) rules kind checks e = true
 genuine_by_kind (Some Write) rules kind checks e = genuine_pair rules kind checks (pair_of e)
 genuine_by_kind (Some Transfer) rules kind checks e = genuine_configuration rules checks (configuration_of e)
-genuine_by_kind (Some A-pair) rules kind checks e = genuine_pair rules kind checks (pair_of e)
+genuine_by_kind (Some APair) rules kind checks e = genuine_pair rules kind checks (pair_of e)
 genuine_by_kind (Some Ack) rules kind checks e = true
 genuine_by_kind (Some Stock) rules kind checks e = genuine_pair rules kind checks (pair_of e)
 genuine_by_kind (Some Config) rules kind checks e = genuine_configuration rules checks (configuration_of e)

@@ -6,4 +6,4 @@ use Rattle.stores.specs.declared.fault.StoreFault.TheVariants.{NoSave, Damaged}
 
 abbrev pub store_refusal : StoreFault → Refusal
 store_refusal (NoSave place) = record { number = 9; layer = Store; place = place }
-store_refusal (Damaged record-number) = record { number = 22; layer = Store; place = record-number }
+store_refusal (Damaged record_number) = record { number = 22; layer = Store; place = record_number }

@@ -2,7 +2,7 @@
 use Rattle.std.specs.Prelude.{ℕ, cond, Some, None, Option, ◌==◌}
 use Rattle.wire.specs.declared.entry.Entry.{Entry}
 use Rattle.wire.specs.declared.entry.EntryKind.{EntryKind}
-use Rattle.wire.specs.declared.entry.EntryKind.TheVariants.{Read, Write, Transfer, Pair as A-pair, Ack, Stock, Config, Behind}
+use Rattle.wire.specs.declared.entry.EntryKind.TheVariants.{Read, Write, Transfer, Pair as APair, Ack, Stock, Config, Behind}
 use Rattle.wire.specs.declared.pair.Pair.{Pair}
 use Rattle.wire.specs.declared.pair.Configuration.{Configuration}
 
@@ -10,7 +10,7 @@ abbrev pub kind_number : EntryKind → ℕ
 kind_number Read = 1
 kind_number Write = 2
 kind_number Transfer = 3
-kind_number A-pair = 4
+kind_number APair = 4
 kind_number Ack = 5
 kind_number Stock = 6
 kind_number Config = 7
@@ -21,7 +21,7 @@ kind_of n =
     cond (n == 1) (Some Read)
     (cond (n == 2) (Some Write)
     (cond (n == 3) (Some Transfer)
-    (cond (n == 4) (Some A-pair)
+    (cond (n == 4) (Some APair)
     (cond (n == 5) (Some Ack)
     (cond (n == 6) (Some Stock)
     (cond (n == 7) (Some Config)

@@ -5,7 +5,7 @@ use Rattle.kinds.specs.Partial.{only_if}
 use Rattle.wire.specs.declared.party.Replica.{Replica}
 use Rattle.wire.specs.declared.party.Client.{Client}
 use Rattle.wire.specs.declared.party.Party.{Party}
-use Rattle.wire.specs.declared.party.Party.TheVariants.{Source, Client as A-client, Replica as A-replica}
+use Rattle.wire.specs.declared.party.Party.TheVariants.{Source, Client as AClient, Replica as AReplica}
 
 -- replicas are numbered 0 to 63, clients 1 to 32
 abbrev pub replica_of : ℕ → Option Replica
@@ -18,10 +18,10 @@ client_of n = only_if (nat_le 1 n && nat_le n 32) (λ e. record { number = n; ok
 abbrev pub party_of : ℕ → Option Party
 party_of n =
     cond (n == 0) (Some Source)
-    (cond (nat_le 1 n && nat_le n 32) (option_map A-client (client_of n))
-    (cond (nat_le 100 n && nat_le n 163) (option_map A-replica (replica_of (n - 100))) None))
+    (cond (nat_le 1 n && nat_le n 32) (option_map AClient (client_of n))
+    (cond (nat_le 100 n && nat_le n 163) (option_map AReplica (replica_of (n - 100))) None))
 
 abbrev pub party_number : Party → ℕ
 party_number Source = 0
-party_number (A-client c) = c.number
-party_number (A-replica r) = 100 + r.number
+party_number (AClient c) = c.number
+party_number (AReplica r) = 100 + r.number
