@@ -4,7 +4,6 @@ use Rattle.std.specs.Option.{option_map}
 use Rattle.fields.specs.Parts.{Taken, taken}
 use Rattle.fields.specs.Numbers.{number_of, signed_of}
 use Rattle.fields.specs.Left.{nothing}
-use Rattle.kinds.specs.declared.word.Word.{Word}
 use Rattle.queries.specs.declared.query.Query.{Query}
 use Rattle.queries.specs.declared.query.Query.TheVariants.{Weight, Quarantined, Released, Blocked, Value, Draw}
 
