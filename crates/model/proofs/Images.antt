@@ -46,7 +46,7 @@ pub record ComesFrom (f : ℕ → ℕ) (xs : List ℕ) (y : ℕ) : Type 0 where
   pub at_is : f at ≡ y
 
 pub comes_from : (f : ℕ → ℕ) (xs : List ℕ) (y : ℕ) → y ∈ map f xs → ComesFrom f xs y
-comes_from f [] y m = absurd (Memᴰ.not_nil m)
+comes_from f [] y m = absurd (Memᴰ.not-nil m)
 comes_from f (x ∷ xs) y m = by_case (λ r. comes_from f xs y r) (Memᴰ.cases_cons m)
   where
     by_case : (y ∈ map f xs → ComesFrom f xs y) → (y ≡ f x) ⊎ (y ∈ map f xs) → ComesFrom f (x ∷ xs) y
@@ -64,7 +64,7 @@ pub record IsBelow (test : ℕ → Bool) (n k : ℕ) : Type 0 where
 
 pub below_only : (test : ℕ → Bool) (n k : ℕ) → k ∈ below test n → IsBelow test n k
 unfolding below
-below_only test zero k m = absurd (Memᴰ.not_nil m)
+below_only test zero k m = absurd (Memᴰ.not-nil m)
 below_only test (suc n) k m = by_test (test n) refl (λ r. below_only test n k r) m
   where
     more : IsBelow test n k → IsBelow test (suc n) k

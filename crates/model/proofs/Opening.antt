@@ -144,7 +144,7 @@ module _ {V : Type 0} (kind : Kind V) (v : V) (w : World) (o : Opened kind v w.h
       falls_not = λ j k ov lk y z. absurd (none_logged k lk);
       rises = λ j k ov sk. absurd (none_logged k sk.logged);
     };
-    texts = λ t m. absurd (Memᴰ.not_nil m);
+    texts = λ t m. absurd (Memᴰ.not-nil m);
   }
     where
       none_posted : (n : ℕ) → n < length w.hall.post.list → ⊥

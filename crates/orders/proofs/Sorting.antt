@@ -77,7 +77,7 @@ pub record StrictOrder (R : ℕ → ℕ → Type 0) : Type 0 where
 
 module _ {R : ℕ → ℕ → Type 0} (o : StrictOrder R) where
   insert : (i : ℕ) (l : List ℕ) → Pairwise R l → (i ∈ l → ⊥) → Sorted R (i ∷ l)
-  insert i [] none out = record { list = i ∷ []; all = λ j m. m; only = λ j m. m; sorted = more (λ j m. absurd (Memᴰ.not_nil m)) none }
+  insert i [] none out = record { list = i ∷ []; all = λ j m. m; only = λ j m. m; sorted = more (λ j m. absurd (Memᴰ.not-nil m)) none }
   insert i (j ∷ l) (more h p) out = place (o.either i j (λ e. out (here e))) (insert i l p (λ m. out (there m)))
     where
       first : R i j → (k : ℕ) → k ∈ (j ∷ l) → R i k
