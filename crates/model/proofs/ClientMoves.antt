@@ -1,7 +1,7 @@
 -- What a client can do with an entry: the ways through its step that change its line or post something.
 -- The view is told from the verdict alone.
 use Rattle.std.proofs.Common.{◌≡◌, ℕ, ◌+◌, ◌<◌, max, Bool, true, false, not, ◌&&◌, eqb, ltb, leb, ◌⊎◌, Some, None, Ok, Option, sym, refl, ap, inl, inr, arith}
-use Rattle.std.proofs.lemmas.Bool.{eqb-true, leb-false}
+use Rattle.std.proofs.lemmas.Bool.{eqb-true, leb-false, not-false}
 use Rattle.kinds.specs.declared.word.Word.{Word}
 use Rattle.wire.specs.declared.entry.Entry.{Entry}
 use Rattle.wire.specs.declared.entry.EntryKind.{EntryKind}
@@ -21,7 +21,7 @@ use Rattle.clients.specs.declared.turn.Turn.TheVariants.{Moves, Stamps}
 use Rattle.clients.specs.Lines.{no_pair, is_open, is_reading, is_writing, opened, configured_as, ended, counting, hearing, stamped}
 use Rattle.clients.specs.Turns.{closing, is_quorum, pair_heard, ack_heard, on_pair, on_pair_from, on_ack, on_ack_from, on_config, on_behind, reopening, decided_by_kind, decided, read_of, write_of, unsealed}
 use Rattle.model.proofs.ReplicaMoves.{kind_known}
-use Rattle.model.proofs.Ways.{way, not_ok, ok_same, not-false, both}
+use Rattle.model.proofs.Ways.{way, not_ok, ok_same, both}
 
 -- PAIR for the open round of reading, from a member that is not counted yet
 pub record Hears (line : Line) (e : Entry) (genuine : Bool) (from : Replica) : Type 0 where

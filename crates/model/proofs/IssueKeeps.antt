@@ -1,6 +1,7 @@
 -- Issue keeps every rule: one more configuration in the roll, its text sealed, CONFIG in the post.
 -- The set has been found right, and roll and post have room.
 use Rattle.std.proofs.Common.{◌≡◌, ℕ, ◌+◌, ◌*◌, ◌<◌, ◌≤◌, Bool, true, false, ◌&&◌, eqb, ◌⊎◌, List, [], ◌∷◌, ◌++◌, length, get_or, sym, refl, ap, ◌∙◌, subst, inl, inr, le_of_eq, arith, length-append, eqb-true, leb-true}
+use Rattle.std.proofs.lemmas.Bool.{not-false}
 use mathlib.Core.List.Memᴰ
 use mathlib.Core.List.{Memᴰ}
 use native.Mathlib.Decide.{dec_lt}
@@ -24,7 +25,7 @@ use Rattle.model.specs.Issuing.{is_right_set, has_too_many_marked}
 use Rattle.model.proofs.Frames.{history_added, later_views, later_card, later_seat, later_text}
 use Rattle.model.proofs.Invariants.{views, history, issued_as, Sized, RollRule, KnownText, of_configuration, Holds, Later}
 use Rattle.model.proofs.Posts.{before_end, at_end, places_added, answers_posted, no_answer, log_later, seats_begin}
-use Rattle.model.proofs.Ways.{both, not-false}
+use Rattle.model.proofs.Ways.{both}
 
 -- the world after the source has issued a configuration
 abbrev pub issue_world : World → Source → Configuration → (ℕ → ℕ) → ℕ → (Text → Seal → Bool) → (Text → Seal) → World

@@ -1,6 +1,7 @@
 -- What a replica can do with an entry: the ways through its step that save or post something.
 -- The view is told from the decision alone.
 use Rattle.std.proofs.Common.{◌≡◌, ℕ, ◌+◌, ◌<◌, ◌≤◌, Bool, true, false, cond, not, ◌&&◌, eqb, ltb, leb, Some, None, Ok, Option, sym, refl, arith}
+use Rattle.std.proofs.lemmas.Bool.{not-false}
 use Rattle.std.proofs.lemmas.Bool.Decides.{nat_tests}
 use Rattle.wire.specs.declared.entry.Entry.{Entry}
 use Rattle.wire.specs.declared.entry.EntryKind.{EntryKind}
@@ -15,7 +16,7 @@ use Rattle.rules.specs.Posts.{pair_entry, ack_entry, stock_entry, config_entry, 
 use Rattle.rules.specs.Senders.{sender_within}
 use Rattle.replicas.specs.declared.decision.Decision.{Decision}
 use Rattle.replicas.specs.Decisions.{Verdict, party, present, is_member, holding, entering, stocked, serving, on_read, on_write, on_config, on_transfer, on_stock, on_stock_from, decided_by_kind, decided}
-use Rattle.model.proofs.Ways.{way, not_ok, ok_same, not-false, both}
+use Rattle.model.proofs.Ways.{way, not_ok, ok_same, both}
 
 -- the number of a kind that was found
 pub kind_known : (n : ℕ) (k : EntryKind) → kind_of n ≡ Some k → n ≡ kind_number k

@@ -1,6 +1,7 @@
 -- Every call keeps every rule.
 -- Each lemma tells from a call's definition which hall it leaves, and cites the lemma of that change.
 use Rattle.std.proofs.Common.{◌≡◌, ℕ, ◌+◌, ◌-◌, ◌<◌, ◌≤◌, Bool, true, false, cond, not, ◌&&◌, ◌||◌, eqb, ltb, leb, List, ◌∷◌, length, set, is_some, Some, None, Ok, Err, Option, Result, sym, refl, ap, ◌∙◌, subst, arith, ltb-true, ne_eqb, leb-true}
+use Rattle.std.proofs.lemmas.Bool.{not-false}
 use borrow.Author.Tests.{clash, eqb-false}
 use Rattle.kinds.specs.declared.word.Word.{Word}
 use Rattle.wire.specs.declared.entry.Entry.{Entry}
@@ -44,7 +45,7 @@ use Rattle.model.proofs.Posts.{open_keeps}
 use Rattle.model.proofs.ReplicaKeeps.{replica_keeps, replica_world}
 use Rattle.model.proofs.ReplicaPosts.{replica_posts}
 use Rattle.model.proofs.SlipKeeps.{one_seat_keeps, freed_rule, lodged_rule, seat_same}
-use Rattle.model.proofs.Ways.{way, way_in, both, neither, not_both, not-false}
+use Rattle.model.proofs.Ways.{way, way_in, both, neither, not_both}
 
 -- the world with another hall
 abbrev pub in_hall : World → Hall → World

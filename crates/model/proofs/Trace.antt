@@ -1,6 +1,7 @@
 -- Where in a run each operation of the log began and ended.
 -- By the events of the calls, along the positions of the run.
 use Rattle.std.proofs.Common.{◌≡◌, ℕ, zero, suc, ◌+◌, ◌<◌, ◌≤◌, true, not, ◌&&◌, eqb, leb, ◌⊎◌, length, is_some, Some, None, Option, sym, refl, ap, ◌∙◌, subst, inl, inr, add-one, arith, eq-eqb, eqb-true, le-leb, leb-true}
+use Rattle.std.proofs.lemmas.Bool.{not-false}
 use native.Mathlib.Decide.{ℕ_discrete, dec_lt}
 use borrow.Author.Tests.{clash}
 use Rattle.kinds.specs.declared.word.Word.{Word}
@@ -19,7 +20,7 @@ use Rattle.model.proofs.Events.{Event, nothing, begins, ends, BegunLog, EndedLog
 use Rattle.model.proofs.Growing.{Grows, grows_same, grows_trans, event_grows, ended_logged}
 use Rattle.model.proofs.Invariants.{KnownPair, the_opening, a_write as of_a_write, Holds}
 use Rattle.model.proofs.RunKeeps.{sealed_at, holds_at}
-use Rattle.model.proofs.Ways.{way_in, both, not-false, not_some}
+use Rattle.model.proofs.Ways.{way_in, both, not_some}
 
 -- a begin and its slip tell client and place
 slip_same : {V : Type 0} {c d k j : ℕ} → ◌≡◌ {A = Answer V} (slip c k) (slip d j) → (c ≡ d) × (k ≡ j)

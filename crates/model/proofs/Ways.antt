@@ -1,6 +1,6 @@
 -- Which way a chain of tests went, told from what came of it.
 -- Nothing is assumed.
-use Rattle.std.proofs.Common.{◌≡◌, ℕ, Bool, true, false, cond, not, ◌&&◌, ◌||◌, Some, None, Ok, Err, Option, Result, sym, refl, arith}
+use Rattle.std.proofs.Common.{◌≡◌, ℕ, Bool, true, false, cond, ◌&&◌, ◌||◌, Some, None, Ok, Err, Option, Result, sym, refl, arith}
 
 -- one of the two ways of a test
 pub way : {X P : Type 0} (b : Bool) {x y r : X} → cond b x y ≡ r → (b ≡ true → x ≡ r → P) → (b ≡ false → y ≡ r → P) → P
@@ -19,14 +19,6 @@ some_same p = cc
 
 pub not_some : {A P : Type 0} {a : A} → ◌≡◌ {A = Option A} None (Some a) → P
 not_some p = let z : ◌≡◌ {A = ℕ} 0 1 = cc in absurd (omega arith)
-
-pub not-true : (b : Bool) → not b ≡ true → b ≡ false
-not-true true e = sym e
-not-true false e = refl
-
-pub not-false : (b : Bool) → not b ≡ false → b ≡ true
-not-false true e = refl
-not-false false e = sym e
 
 -- both parts of a test
 pub record Both (a b : Bool) : Type 0 where

@@ -3,7 +3,7 @@ ghost use Rattle.std.specs.Borrow.{sem, follows};
 ghost use Rattle.std.specs.Prelude.{◌≡◌, ◌-◌, ◌<◌, vec_len, Decides, slice_index_or};
 ghost use Rattle.std.specs.Vec.{with_item};
 ghost use Rattle.sealers.specs.Keys.{key_place, key_row, key_seal, keyed_genuine, keyed_seals, keyed_given, spent_row, AllWithin, KeyedOpened};
-ghost use Rattle.sealers.specs.contracts.keyed.Keyed.{the_row as keyed-type};
+ghost use Rattle.sealers.specs.contracts.keyed.Keyed.{the_row as keyed_type};
 ghost use Rattle.sealers.specs.contracts.keyed.KeyRow.{the_row as row_type};
 
 use crate::fault::SealerFault;
@@ -92,7 +92,7 @@ impl Keyed {
     fn row(&mut self, place: usize) -> &mut KeyRow
         requires { place < vec_len self.old.rows }
         ensures value { result.now ≡ slice_index_or self.old.rows.items place result.now }
-        ensures* follows { sem 𝓛 (follows keyed-type row_type self.entry.ghost_name result.ghost_name (λ w. record { rows = with_item self.old.rows place w })) }
+        ensures* follows { sem 𝓛 (follows keyed_type row_type self.entry.ghost_name result.ghost_name (λ w. record { rows = with_item self.old.rows place w })) }
     {
         &mut self.rows[place]
     }
