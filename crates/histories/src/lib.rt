@@ -3,7 +3,7 @@
 
 ghost use Rattle.histories.specs.Reads.{LaterReadsSeeSettledWrites};
 
-// What a quorum answers after a write settled has the write's stamp or a higher one.
+// The highest stamp that a quorum answers after a write settled is the write's or a higher one.
 pub fn later_reads_see_settled_writes()
     ensures { LaterReadsSeeSettledWrites }
 {}
