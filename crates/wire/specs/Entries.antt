@@ -1,8 +1,10 @@
 -- The kinds of entry with their numbers, and what an entry carries.
-use Rattle.std.specs.Prelude.{ℕ, cond, Some, None, Option, ◌==◌}
+use Rattle.std.specs.Prelude.{◌≡◌, ℕ, cond, Some, None, Option, Result, IfOk, ◌==◌}
+use Rattle.std.specs.Option.{ok_or}
 use Rattle.wire.specs.declared.entry.Entry.{Entry}
 use Rattle.wire.specs.declared.entry.EntryKind.{EntryKind}
 use Rattle.wire.specs.declared.entry.EntryKind.TheVariants.{Read, Write, Transfer, Pair as APair, Ack, Stock, Config, Behind}
+use Rattle.wire.specs.declared.entry.UnknownKind.{UnknownKind}
 use Rattle.wire.specs.declared.pair.Pair.{Pair}
 use Rattle.wire.specs.declared.pair.Configuration.{Configuration}
 
@@ -26,6 +28,15 @@ kind_of n =
     (cond (n == 6) (Some Stock)
     (cond (n == 7) (Some Config)
     (cond (n == 8) (Some Behind) None)))))))
+
+-- what a number decodes to, and the number of what it decodes to
+pub record Decodes (n : ℕ) (r : Result EntryKind UnknownKind) : Type 0 where
+  pub value : r ≡ ok_or (kind_of n) (record { 0 = n })
+  pub exact : IfOk r (λ k. kind_number k ≡ n)
+
+pub record Encodes (k : EntryKind) (n : ℕ) : Type 0 where
+  pub value : n ≡ kind_number k
+  pub back : kind_of n ≡ Some k
 
 -- the pair that an entry carries: WRITE, PAIR and STOCK do
 abbrev pub pair_of : Entry → Pair

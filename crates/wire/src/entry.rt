@@ -1,6 +1,6 @@
 // Entries: the messages that parties post.
-ghost use Rattle.std.specs.Prelude.{◌≡◌, IfSome, Some};
-ghost use Rattle.wire.specs.Entries.{kind_of, kind_number, pair_of, configuration_of};
+ghost use Rattle.std.specs.Prelude.{◌≡◌};
+ghost use Rattle.wire.specs.Entries.{Decodes, Encodes, pair_of, configuration_of};
 
 use crate::pair::{Configuration, Pair, Seal, Stamp};
 use crate::set::ReplicaSet;
@@ -40,30 +40,35 @@ pub struct Entry {
     pub seal: Seal,
 }
 
-impl EntryKind {
-    // The kind that has this number.
-    pub fn new(number: u8) -> Option<EntryKind>
-        ensures value { result ≡ kind_of number }
-        ensures exact { IfSome result (λ k. kind_number k ≡ number) }
-    {
+// A number that no kind of entry has.
+#[derive(Clone, Copy, PartialEq, Eq, Debug)]
+pub struct UnknownKind(pub u8);
+
+impl TryFrom<u8> for EntryKind {
+    type Error = UnknownKind;
+
+    ghost try_from_gives = { Decodes };
+
+    fn try_from(number: u8) -> Result<EntryKind, UnknownKind> {
         match number {
-            1 => Some(EntryKind::Read),
-            2 => Some(EntryKind::Write),
-            3 => Some(EntryKind::Transfer),
-            4 => Some(EntryKind::Pair),
-            5 => Some(EntryKind::Ack),
-            6 => Some(EntryKind::Stock),
-            7 => Some(EntryKind::Config),
-            8 => Some(EntryKind::Behind),
-            _ => None,
+            1 => Ok(EntryKind::Read),
+            2 => Ok(EntryKind::Write),
+            3 => Ok(EntryKind::Transfer),
+            4 => Ok(EntryKind::Pair),
+            5 => Ok(EntryKind::Ack),
+            6 => Ok(EntryKind::Stock),
+            7 => Ok(EntryKind::Config),
+            8 => Ok(EntryKind::Behind),
+            _ => Err(UnknownKind(number)),
         }
     }
+}
 
-    pub fn number(self) -> u8
-        ensures value { result ≡ kind_number self }
-        ensures back { kind_of result ≡ Some self }
-    {
-        self as u8
+impl From<EntryKind> for u8 {
+    ghost from_gives = { Encodes };
+
+    fn from(kind: EntryKind) -> u8 {
+        kind as u8
     }
 }
 

@@ -7,8 +7,8 @@ mod party;
 mod set;
 mod text;
 
-pub use entry::{Entry, EntryKind};
+pub use entry::{Entry, EntryKind, UnknownKind};
 pub use pair::{Configuration, Pair, Seal, Stamp};
-pub use party::{Client, Party, Replica};
+pub use party::{Client, Numbered, Party, Replica, UnknownParty};
 pub use set::ReplicaSet;
 pub use text::Text;

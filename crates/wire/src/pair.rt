@@ -9,8 +9,8 @@ use kinds::Word;
 #[derive(Clone, Copy, PartialEq, Eq, Debug, Default)]
 pub struct Seal(pub u64);
 
-// The timestamp of a write: a count, and the client that writes.
-#[derive(Clone, Copy, PartialEq, Eq, Debug, Default)]
+// The timestamp of a write: a count, and the client that writes. Counts compare first, then writers.
+#[derive(Clone, Copy, PartialEq, Eq, PartialOrd, Ord, Debug, Default)]
 pub struct Stamp {
     pub count: u32,
     pub writer: u8,
@@ -33,14 +33,10 @@ pub struct Configuration {
 }
 
 impl Stamp {
-    // Whether this stamp is higher: counts compare first, then writers.
+    // Whether this stamp is higher.
     pub fn is_above(self, other: Stamp) -> bool
         ensures { result ≡ above self other }
     {
-        if self.count == other.count {
-            self.writer > other.writer
-        } else {
-            self.count > other.count
-        }
+        self > other
     }
 }

@@ -1,23 +1,19 @@
 // The parties: the source of configurations, clients and replicas.
-ghost use Rattle.std.specs.Prelude.{◌≡◌, true, ◌&&◌, nat_le, nat_lt};
+ghost use Rattle.std.specs.Prelude.{◌≡◌, true, ◌&&◌, nat_le};
 
-mod clients;
 mod numbers;
-mod replicas;
+mod singles;
 
-// A replica by its number, 0 to 63: no other can be made.
+// A party of one sort by its number, FIRST to LAST: no other can be made.
 #[derive(Clone, Copy, PartialEq, Eq, Debug)]
-pub struct Replica {
+pub struct Numbered<const FIRST: u8, const LAST: u8> {
     number: u8,
-    ghost ok: { nat_lt number 64 ≡ true },
+    ghost ok: { (nat_le FIRST number && nat_le number LAST) ≡ true },
 }
 
-// A client by its number, 1 to 32.
-#[derive(Clone, Copy, PartialEq, Eq, Debug)]
-pub struct Client {
-    number: u8,
-    ghost ok: { (nat_le 1 number && nat_le number 32) ≡ true },
-}
+pub type Replica = Numbered<0, 63>;
+
+pub type Client = Numbered<1, 32>;
 
 #[derive(Clone, Copy, PartialEq, Eq, Debug)]
 pub enum Party {
@@ -26,3 +22,7 @@ pub enum Party {
     Client(Client),
     Replica(Replica),
 }
+
+// A number that no party has.
+#[derive(Clone, Copy, PartialEq, Eq, Debug)]
+pub struct UnknownParty(pub u64);

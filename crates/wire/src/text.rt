@@ -18,6 +18,19 @@ pub struct Text {
     pub body: u64,
 }
 
+impl From<Configuration> for Text {
+    ghost from_gives = { λ c t. t ≡ configuration_text c };
+
+    fn from(configuration: Configuration) -> Text {
+        Text {
+            tag: 67,
+            party: 0,
+            number: configuration.epoch,
+            body: configuration.set.0,
+        }
+    }
+}
+
 impl Text {
     // The text of a pair of the kind that has this number.
     pub fn of_pair(kind: u8, pair: Pair) -> Text
@@ -28,17 +41,6 @@ impl Text {
             party: pair.stamp.writer,
             number: pair.stamp.count,
             body: pair.word.0,
-        }
-    }
-
-    pub fn of_configuration(configuration: Configuration) -> Text
-        ensures { result ≡ configuration_text configuration }
-    {
-        Text {
-            tag: 67,
-            party: 0,
-            number: configuration.epoch,
-            body: configuration.set.0,
         }
     }
 

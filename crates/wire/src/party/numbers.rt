@@ -1,28 +1,30 @@
 // Parties by their numbers: 0 is the source, 1 to 32 are clients, 100 to 163 are the replicas 0 to 63.
-ghost use Rattle.std.specs.Prelude.{◌≡◌, IfSome, Some};
-ghost use Rattle.wire.specs.Parties.{party_of, party_number};
+ghost use Rattle.wire.specs.Parties.{Decodes, Encodes};
 
-use crate::party::{Client, Party, Replica};
+use crate::party::{Client, Party, Replica, UnknownParty};
 
-impl Party {
-    // The party that has this number.
-    pub fn new(number: u64) -> Option<Party>
-        ensures value { result ≡ party_of number }
-        ensures exact { IfSome result (λ x. party_number x ≡ number) }
-    {
+impl TryFrom<u64> for Party {
+    type Error = UnknownParty;
+
+    ghost try_from_gives = { Decodes };
+
+    fn try_from(number: u64) -> Result<Party, UnknownParty> {
         match number {
-            0 => Some(Party::Source),
-            1..=32 => Some(Party::Client(Client::new(number)?)),
-            100..=163 => Some(Party::Replica(Replica::new(number - 100)?)),
-            _ => None,
+            0 => Ok(Party::Source),
+            1..=32 => Client::try_from(number).map(Party::Client),
+            100..=163 => Replica::try_from(number - 100)
+                .map(Party::Replica)
+                .map_err(|_| UnknownParty(number)),
+            _ => Err(UnknownParty(number)),
         }
     }
+}
 
-    pub fn number(self) -> u8
-        ensures value { result ≡ party_number self }
-        ensures back { party_of result ≡ Some self }
-    {
-        match self {
+impl From<Party> for u8 {
+    ghost from_gives = { Encodes };
+
+    fn from(party: Party) -> u8 {
+        match party {
             Party::Source => 0,
             Party::Client(client) => client.number(),
             Party::Replica(replica) => 100 + replica.number(),
