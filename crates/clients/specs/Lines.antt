@@ -5,9 +5,9 @@ use Rattle.wire.specs.declared.pair.Configuration.{Configuration}
 use Rattle.wire.specs.declared.pair.Pair.{Pair}
 use Rattle.wire.specs.declared.pair.Seal.{Seal}
 use Rattle.wire.specs.declared.pair.Stamp.{Stamp}
-use Rattle.wire.specs.declared.party.Replica.{Replica}
 use Rattle.wire.specs.Sets.{inserted}
 use Rattle.wire.specs.Stamps.{above}
+use Rattle.wire.specs.Parties.{Replica}
 use Rattle.clients.specs.declared.line.Line.{Line}
 use Rattle.clients.specs.declared.line.Stage.{Stage}
 use Rattle.clients.specs.declared.line.Stage.TheVariants.{Idle, Reading, Writing, WritingBack, Over}

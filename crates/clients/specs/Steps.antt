@@ -3,9 +3,9 @@ use Rattle.std.specs.Prelude.{◌≡◌, ℕ, ◌+◌, Bool, cond, not, ◌&&◌
 use Rattle.kinds.specs.declared.word.Word.{Word}
 use Rattle.wire.specs.declared.entry.Entry.{Entry}
 use Rattle.wire.specs.declared.pair.Seal.{Seal}
-use Rattle.wire.specs.declared.party.Client.{Client}
 use Rattle.wire.specs.declared.text.Text.{Text}
 use Rattle.wire.specs.Texts.{pair_text}
+use Rattle.wire.specs.Parties.{Client}
 use Rattle.sealers.specs.declared.fault.SealerFault.{SealerFault}
 use Rattle.sealers.specs.declared.fault.SealerFault.TheVariants.{NoSeal}
 use Rattle.sealers.specs.Sealing.{Sealed, sealed, GenuineAfter}

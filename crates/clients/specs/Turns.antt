@@ -6,10 +6,9 @@ use Rattle.wire.specs.declared.entry.Entry.{Entry}
 use Rattle.wire.specs.declared.entry.EntryKind.{EntryKind}
 use Rattle.wire.specs.declared.entry.EntryKind.TheVariants.{Read, Write, Transfer, Pair as APair, Ack, Stock, Config, Behind}
 use Rattle.wire.specs.declared.pair.Pair.{Pair}
-use Rattle.wire.specs.declared.party.Client.{Client}
-use Rattle.wire.specs.declared.party.Replica.{Replica}
 use Rattle.wire.specs.Entries.{kind_of, pair_of, configuration_of}
 use Rattle.wire.specs.Sets.{member}
+use Rattle.wire.specs.Parties.{Client, Replica}
 use Rattle.rules.specs.declared.objection.Objection.{Objection}
 use Rattle.rules.specs.declared.objection.Objection.TheVariants.{TooHigh, NotGenuine, NotMember, AlreadyCounted, NotAwaited, NotNext}
 use Rattle.rules.specs.declared.rules.Rules.{Rules}

@@ -181,11 +181,11 @@ pub fn decide(
 ) -> Result<Turn, Objection>
     ensures { result ≡ decided rules.now client line.now entry.now genuine }
 {
-    match EntryKind::new(entry.kind) {
-        Some(EntryKind::Pair) => on_pair(rules, client, line, entry, genuine),
-        Some(EntryKind::Ack) => on_ack(rules, line, entry),
-        Some(EntryKind::Config) => on_config(client, line, entry, genuine),
-        Some(EntryKind::Behind) => on_behind(client, line, entry),
+    match EntryKind::try_from(entry.kind) {
+        Ok(EntryKind::Pair) => on_pair(rules, client, line, entry, genuine),
+        Ok(EntryKind::Ack) => on_ack(rules, line, entry),
+        Ok(EntryKind::Config) => on_config(client, line, entry, genuine),
+        Ok(EntryKind::Behind) => on_behind(client, line, entry),
         _ => Err(Objection::NotAwaited),
     }
 }

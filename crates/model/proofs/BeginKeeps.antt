@@ -7,8 +7,8 @@ use Rattle.std.proofs.lemmas.List.{get_or_past}
 use Rattle.kinds.specs.declared.word.Word.{Word}
 use Rattle.wire.specs.declared.entry.Entry.{Entry}
 use Rattle.wire.specs.declared.pair.Seal.{Seal}
-use Rattle.wire.specs.declared.party.Client.{Client}
 use Rattle.wire.specs.declared.text.Text.{Text}
+use Rattle.wire.specs.Parties.{Client}
 use Rattle.clients.specs.declared.line.Stage.{Stage}
 use Rattle.clients.specs.declared.line.Stage.TheVariants.{Reading, Writing, WritingBack, Over}
 use Rattle.clients.specs.Lines.{is_reading}

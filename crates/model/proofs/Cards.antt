@@ -7,8 +7,8 @@ use native.Mathlib.Decide.{dec_lt}
 use Rattle.wire.specs.declared.entry.Entry.{Entry}
 use Rattle.wire.specs.declared.pair.Configuration.{Configuration}
 use Rattle.wire.specs.declared.pair.Pair.{Pair}
-use Rattle.wire.specs.declared.party.Replica.{Replica}
 use Rattle.wire.specs.Sets.{member, inserted}
+use Rattle.wire.specs.Parties.{Replica}
 use Rattle.stores.specs.declared.card.Card.{Card}
 use Rattle.rules.specs.Genuine.{quorum_size}
 use Rattle.replicas.specs.Decisions.{holding, entering, higher, stocked}

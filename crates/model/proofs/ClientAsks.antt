@@ -4,9 +4,9 @@ use Rattle.std.proofs.Common.{◌≡◌, ℕ, ◌+◌, ◌<◌, ◌≤◌, true,
 use mathlib.Core.List.{reverse-append}
 use Rattle.std.proofs.lemmas.Bool.{both_ways}
 use Rattle.wire.specs.declared.entry.Entry.{Entry}
-use Rattle.wire.specs.declared.party.Client.{Client}
 use Rattle.wire.specs.declared.text.Text.{Text}
 use Rattle.wire.specs.Sets.{member}
+use Rattle.wire.specs.Parties.{Client}
 use Rattle.clients.specs.declared.line.Line.{Line}
 use Rattle.clients.specs.declared.line.Stage.TheVariants.{Reading, Writing, WritingBack}
 use Rattle.clients.specs.Lines.{is_idle}

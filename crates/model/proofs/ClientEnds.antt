@@ -3,10 +3,9 @@
 use Rattle.std.proofs.Common.{◌≡◌, ℕ, ◌+◌, ◌*◌, ◌<◌, ◌≤◌, true, false, List, length, set, None, sym, refl, ap, ◌∙◌, subst, ⊎_elim, arith}
 use lib.Count.{ones}
 use Rattle.std.proofs.lemmas.Bool.{both_ways, cases_eq, leb-true}
-use Rattle.wire.specs.declared.party.Client.{Client}
-use Rattle.wire.specs.declared.party.Replica.{Replica}
 use Rattle.wire.specs.declared.text.Text.{Text}
 use Rattle.wire.specs.Sets.{inserted}
+use Rattle.wire.specs.Parties.{Client, Replica}
 use Rattle.rules.specs.Genuine.{quorum_size, genuine_entry}
 use Rattle.clients.specs.declared.line.Line.{Line}
 use Rattle.clients.specs.declared.line.Stage.TheVariants.{Over}

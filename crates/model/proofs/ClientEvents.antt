@@ -4,8 +4,8 @@ use Rattle.std.proofs.Common.{◌≡◌, ℕ, Bool, true, false, not, ◌&&◌, 
 use borrow.Author.Tests.{clash}
 use Rattle.wire.specs.declared.entry.Entry.{Entry}
 use Rattle.wire.specs.declared.pair.Seal.{Seal}
-use Rattle.wire.specs.declared.party.Client.{Client}
 use Rattle.wire.specs.Texts.{pair_text}
+use Rattle.wire.specs.Parties.{Client}
 use Rattle.rules.specs.declared.rules.Rules.{Rules}
 use Rattle.rules.specs.Genuine.{genuine_entry}
 use Rattle.clients.specs.declared.line.Line.{Line}

@@ -6,11 +6,10 @@ use Rattle.std.proofs.lemmas.Bool.{and_parts, eqb-true, ne_eqb}
 use Rattle.kinds.specs.declared.word.Word.{Word}
 use Rattle.wire.specs.declared.entry.Entry.{Entry}
 use Rattle.wire.specs.declared.pair.Seal.{Seal}
-use Rattle.wire.specs.declared.party.Client.{Client}
-use Rattle.wire.specs.declared.party.Replica.{Replica}
 use Rattle.wire.specs.declared.text.Text.{Text}
 use Rattle.wire.specs.Entries.{kind_of}
 use Rattle.wire.specs.Texts.{pair_text}
+use Rattle.wire.specs.Parties.{Client, Replica}
 use Rattle.sealers.specs.declared.fault.SealerFault.TheVariants.{NoSeal}
 use Rattle.sealers.specs.Sealing.{spent}
 use Rattle.rules.specs.Genuine.{genuine_entry}

@@ -6,10 +6,9 @@ use Rattle.std.proofs.lemmas.Bool.{both_ways, cases_eq, le-leb, or_right, and_fr
 use Rattle.kinds.specs.declared.word.Word.{Word}
 use Rattle.wire.specs.declared.pair.Pair.{Pair}
 use Rattle.wire.specs.declared.pair.Seal.{Seal}
-use Rattle.wire.specs.declared.party.Client.{Client}
-use Rattle.wire.specs.declared.party.Replica.{Replica}
 use Rattle.wire.specs.declared.text.Text.{Text}
 use Rattle.wire.specs.Texts.{pair_text}
+use Rattle.wire.specs.Parties.{Client, Replica}
 use Rattle.rules.specs.Genuine.{genuine_entry, same_pair, opening_pair, is_client}
 use Rattle.clients.specs.declared.line.Line.{Line}
 use Rattle.clients.specs.declared.line.Stage.TheVariants.{Writing}

@@ -1,13 +1,12 @@
 -- The steps of a client that leave the log as it is and ask for nothing: counting, going on in a new configuration, and answering BEHIND.
 -- Each lemma builds the world that comes of one of its moves.
-use Rattle.std.proofs.Common.{◌≡◌, ℕ, ◌<◌, ◌≤◌, true, false, leb, ◌⊎◌, List, length, sym, refl, ap, subst, inl, inr, ⊎_elim, arith}
+use Rattle.std.proofs.Common.{◌≡◌, ℕ, ◌<◌, ◌≤◌, true, false, ◌⊎◌, List, length, sym, refl, ap, subst, inl, inr, ⊎_elim, arith}
 use lib.Count.{ones}
-use Rattle.std.proofs.lemmas.Bool.{both_ways, and_parts, leb-true, leb-false}
-use Rattle.wire.specs.declared.party.Client.{Client}
-use Rattle.wire.specs.declared.party.Replica.{Replica}
+use Rattle.std.proofs.lemmas.Bool.{both_ways, leb-false}
 use Rattle.wire.specs.declared.text.Text.{Text}
 use Rattle.wire.specs.Entries.{kind_of, configuration_of}
 use Rattle.wire.specs.Sets.{member, inserted}
+use Rattle.wire.specs.Parties.{Client, Replica}
 use Rattle.rules.specs.Genuine.{quorum_size, genuine_by_kind, genuine_entry}
 use Rattle.rules.specs.Posts.{config_entry}
 use Rattle.clients.specs.declared.line.Line.{Line}
@@ -28,15 +27,16 @@ use Rattle.model.proofs.ClientMoves.{Hears, Acked, Configures, heard, moved_on}
 use Rattle.model.proofs.Heard.{sent_by, heard_reading, counted_sending}
 use Rattle.model.proofs.Invariants.{KnownConfiguration, OpenRule, SeatRule, Holds, UnforgedNow}
 use Rattle.model.proofs.Moved.{moved, posting_none, posting_one}
+use Rattle.wire.proofs.Made.{single_within}
 use Rattle.model.proofs.Seals.{checked_configuration}
 use Rattle.model.proofs.Seats.{with_line, base_here, seat_idle, seat_reading, seat_writing, seat_back, seat_over, stay_keeps}
 
 -- the numbers of clients are 1 and above, and below 100
 pub client_low : (client : Client) → 1 ≤ client.number
-client_low client = leb-true 1 client.number (and_parts (leb 1 client.number) (leb client.number 32) client.ok).0
+client_low client = (single_within client).0
 
 pub client_high : (client : Client) → client.number < 100
-client_high client = omega (arith, leb-true client.number 32 (and_parts (leb 1 client.number) (leb client.number 32) client.ok).1)
+client_high client = omega (arith, (single_within client).1)
 
 pub writing_cases : (s : Stage) → is_writing s ≡ true → (s ≡ Writing) ⊎ (s ≡ WritingBack)
 writing_cases Idle p = absurd (both_ways true (sym p) refl)

@@ -4,9 +4,9 @@ use Rattle.std.proofs.Common.{◌≡◌, ℕ, ◌+◌, ◌*◌, ◌<◌, ◌≤�
 use lib.Count.{ones}
 use Rattle.std.proofs.lemmas.Bool.{leb-true}
 use Rattle.wire.specs.declared.pair.Pair.{Pair}
-use Rattle.wire.specs.declared.party.Replica.{Replica}
 use Rattle.wire.specs.declared.text.Text.{Text}
 use Rattle.wire.specs.Sets.{member}
+use Rattle.wire.specs.Parties.{Replica}
 use Rattle.rules.specs.Genuine.{quorum_size, genuine_entry}
 use Rattle.clients.specs.Turns.{is_quorum}
 use Rattle.quorums.proofs.Insertion.{inserted_member, inserted_within}

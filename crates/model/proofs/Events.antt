@@ -6,13 +6,13 @@ use borrow.Author.Tests.{clash}
 use Rattle.std.proofs.lemmas.List.{get_or_past}
 use Rattle.kinds.specs.declared.word.Word.{Word}
 use Rattle.wire.specs.declared.entry.Entry.{Entry}
-use Rattle.wire.specs.declared.party.Client.{Client}
 use Rattle.wire.specs.declared.party.Party.{Party}
 use Rattle.wire.specs.declared.party.Party.TheVariants.{Source as TheSource, Client as AClient, Replica as AReplica}
 use Rattle.wire.specs.declared.set.ReplicaSet.{ReplicaSet}
 use Rattle.wire.specs.declared.text.Text.{Text}
 use Rattle.wire.specs.Entries.{kind_of}
 use Rattle.wire.specs.Sets.{member}
+use Rattle.wire.specs.Parties.{Client}
 use Rattle.clients.specs.declared.fault.ClientFault.{ClientFault}
 use Rattle.clients.specs.declared.line.Line.{Line}
 use Rattle.clients.specs.declared.line.Stage.{Stage}

@@ -1,16 +1,15 @@
 -- One more PAIR or ACK is counted: what is said of the counted replicas holds of the new one too.
 -- The lemmas speak of one world, in which the entry that is handed over stands in the post.
-use Rattle.std.proofs.Common.{◌≡◌, ℕ, ◌+◌, ◌-◌, ◌*◌, ◌<◌, ◌≤◌, Bool, true, false, cond, ◌&&◌, eqb, ltb, leb, List, ◌∷◌, length, Some, sym, refl, ap, ◌∙◌, subst, ⊎_elim, arith}
+use Rattle.std.proofs.Common.{◌≡◌, ℕ, ◌+◌, ◌-◌, ◌*◌, ◌<◌, ◌≤◌, Bool, true, false, cond, ◌&&◌, eqb, leb, List, ◌∷◌, length, Some, sym, refl, ap, ◌∙◌, subst, ⊎_elim, arith}
 use Rattle.std.proofs.lemmas.Bool.{both_ways, and_parts, eqb-true, eqb-false, leb-true}
-use Rattle.kinds.specs.Partials.{only_if_some}
 use Rattle.wire.specs.declared.entry.Entry.{Entry}
 use Rattle.wire.specs.declared.pair.Pair.{Pair}
-use Rattle.wire.specs.declared.party.Replica.{Replica}
 use Rattle.wire.specs.declared.text.Text.{Text}
 use Rattle.wire.specs.Entries.{kind_of, pair_of}
-use Rattle.wire.specs.Parties.{replica_of}
+use Rattle.wire.specs.Parties.{Replica, replica_of}
 use Rattle.wire.specs.Sets.{member}
 use Rattle.wire.specs.Stamps.{above}
+use Rattle.wire.proofs.Made.{single_number}
 use Rattle.rules.specs.Genuine.{genuine_by_kind, genuine_entry}
 use Rattle.rules.specs.Senders.{sender_within}
 use Rattle.clients.specs.Lines.{same_stamp, counting}
@@ -47,7 +46,7 @@ sent_by set sender from p = way (leb 100 sender && member set (sender - 100)) p 
     told : (leb 100 sender && member set (sender - 100)) ≡ true → replica_of (sender - 100) ≡ Some from → SentBy set sender from
     told in_set q =
         let parts = and_parts (leb 100 sender) (member set (sender - 100)) in_set in
-        let is : from.number ≡ sender - 100 = sym (ap (λ (r : Replica). r.number) (only_if_some (ltb (sender - 100) 64) (λ e. record { number = sender - 100; ok = e }) from q).1) in
+        let is : from.number ≡ sender - 100 = single_number (sender - 100) from q in
         record { number = omega (arith, leb-true 100 sender parts.0); inside = ap (member set) is ∙ parts.1 }
 
 pair_served : {q e t : ℕ} {h : List Entry} → Posted (PairEntry q e t) h → Served h q e t

@@ -2,12 +2,10 @@
 -- Nothing is assumed.
 use Rattle.std.proofs.Common.{◌≡◌, ℕ, ◌+◌, ◌-◌, ◌<◌, ◌≤◌, ◌&&◌, eqb, ltb, leb, Some, None, Option, sym, ap, arith, ltb-true, leb-true}
 use Rattle.std.specs.Option.{option_map}
-use Rattle.kinds.specs.Partials.{only_if_some}
-use Rattle.wire.specs.declared.party.Client.{Client}
 use Rattle.wire.specs.declared.party.Party.{Party}
 use Rattle.wire.specs.declared.party.Party.TheVariants.{Source as TheSource, Client as AClient, Replica as AReplica}
-use Rattle.wire.specs.declared.party.Replica.{Replica}
-use Rattle.wire.specs.Parties.{party_of, client_of, replica_of}
+use Rattle.wire.specs.Parties.{Client, Replica, party_of, client_of, replica_of}
+use Rattle.wire.proofs.Made.{single_number}
 use Rattle.rules.specs.declared.rules.Rules.{Rules}
 use Rattle.model.specs.Halls.{party_within, party_in}
 use Rattle.model.proofs.Ways.{way, not_some, both}
@@ -58,8 +56,8 @@ party_client : (n : ℕ) (c : Client) → party_of n ≡ Some (AClient c) → (c
 party_client n c p =
     way (eqb n 0) p (λ t e. source_client e)
     (λ t e. way (leb 1 n && leb n 32) e
-    (λ u f. let found = only_if_some (leb 1 n && leb n 32) (λ ok. record { number = n; ok = ok }) c (mapped_client (client_of n) c f) in
-    (sym (ap (λ z. z.number) found.1), leb-true 1 n (both (leb 1 n) (leb n 32) u).first))
+    (λ u f. let number = single_number n c (mapped_client (client_of n) c f) in
+    (number, leb-true 1 n (both (leb 1 n) (leb n 32) u).first))
     (λ u f. way (leb 100 n && leb n 163) f (λ v g. replica_mapped (replica_of (n - 100)) c g) (λ v g. not_some g)))
 
 party_replica : (n : ℕ) (r : Replica) → party_of n ≡ Some (AReplica r) → 100 + r.number ≡ n
@@ -68,8 +66,7 @@ party_replica n r p =
     (λ t e. way (leb 1 n && leb n 32) e
     (λ u f. client_mapped (client_of n) r f)
     (λ u f. way (leb 100 n && leb n 163) f
-    (λ v g. let found = only_if_some (ltb (n - 100) 64) (λ ok. record { number = n - 100; ok = ok }) r (mapped_replica (replica_of (n - 100)) r g) in
-    let number = ap (λ z. z.number) found.1 in
+    (λ v g. let number = single_number (n - 100) r (mapped_replica (replica_of (n - 100)) r g) in
     let low = leb-true 100 n (both (leb 100 n) (leb n 163) v).first in
     omega arith)
     (λ v g. not_some g)))

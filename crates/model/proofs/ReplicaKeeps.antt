@@ -1,16 +1,15 @@
 -- The step of a replica keeps every rule.
 -- The entry that is handed over stands in the post, and the post has room.
-use Rattle.std.proofs.Common.{◌≡◌, ℕ, ◌+◌, ◌-◌, ◌<◌, ◌≤◌, Bool, true, false, cond, ◌&&◌, eqb, ltb, leb, List, length, Some, None, Ok, Err, Option, sym, refl, ap, ◌∙◌, subst, subst₂, le_of_lt, arith, eq-eqb, eqb-true, leb-true}
-use Rattle.kinds.specs.Partials.{only_if_some}
+use Rattle.std.proofs.Common.{◌≡◌, ℕ, ◌+◌, ◌-◌, ◌<◌, ◌≤◌, Bool, true, false, cond, ◌&&◌, eqb, leb, List, length, Some, None, Ok, Err, Option, sym, refl, ap, ◌∙◌, subst, subst₂, le_of_lt, arith, eq-eqb, eqb-true, leb-true}
 use Rattle.std.proofs.lemmas.Bool.Decides.{nat_tests}
 use Rattle.wire.specs.declared.entry.Entry.{Entry}
 use Rattle.wire.specs.declared.pair.Pair.{Pair}
-use Rattle.wire.specs.declared.party.Replica.{Replica}
 use Rattle.wire.specs.declared.text.Text.{Text}
 use Rattle.wire.specs.Entries.{kind_of, pair_of, configuration_of}
-use Rattle.wire.specs.Parties.{replica_of}
+use Rattle.wire.specs.Parties.{Replica}
 use Rattle.wire.specs.Sets.{member}
 use Rattle.wire.specs.Stamps.{above}
+use Rattle.wire.proofs.Made.{single_number}
 use Rattle.stores.specs.declared.card.Card.{Card}
 use Rattle.stores.specs.declared.store.Saves.{Saves}
 use Rattle.stores.specs.declared.fault.StoreFault.TheVariants.{NoSave}
@@ -73,9 +72,6 @@ did_save w n card said post place saves e = by_room (none_left w.hall.saves) e
 record FromMember (set sender : ℕ) (from : Replica) : Type 0 where
   sent_by : sender ≡ 100 + from.number
   inside : member set from.number ≡ true
-
-only_number : (m : ℕ) (from : Replica) → replica_of m ≡ Some from → from.number ≡ m
-only_number m from is = let found = only_if_some (ltb m 64) (λ e. record { number = m; ok = e }) from is in sym (ap (λ r. r.number) found.1)
 
 module _ (kind : ℕ) (sealed : List Text) (w : World) (small : kind ≤ 63) (holds : Holds kind sealed w) (unforged : UnforgedNow kind sealed w)
     (n : ℕ) (lt : n < length w.hall.post.list) (replica : Replica) (inside : replica.number < w.hall.rules.replicas)
@@ -194,7 +190,7 @@ module _ (kind : ℕ) (sealed : List Text) (w : World) (small : kind ≤ 63) (ho
       (λ t e. let b = both (leb 100 sender) (member set (sender - 100)) t in
       let m = b.second in
       let low = leb-true 100 sender b.first in
-      let number = only_number (sender - 100) from e in
+      let number = single_number (sender - 100) from e in
       record { sent_by = omega arith; inside = ap (member set) number ∙ m })
       (λ t e. not_some e)
 

@@ -6,10 +6,10 @@ use Rattle.std.proofs.lemmas.Bool.Decides.{nat_tests}
 use Rattle.wire.specs.declared.entry.Entry.{Entry}
 use Rattle.wire.specs.declared.entry.EntryKind.{EntryKind}
 use Rattle.wire.specs.declared.entry.EntryKind.TheVariants.{Read, Write, Transfer, Pair as APair, Ack, Stock, Config, Behind}
-use Rattle.wire.specs.declared.party.Replica.{Replica}
 use Rattle.wire.specs.Entries.{kind_of, kind_number, pair_of, configuration_of}
 use Rattle.wire.specs.Sets.{member}
 use Rattle.wire.specs.Stamps.{above}
+use Rattle.wire.specs.Parties.{Replica}
 use Rattle.stores.specs.declared.card.Card.{Card}
 use Rattle.rules.specs.declared.rules.Rules.{Rules}
 use Rattle.rules.specs.Posts.{pair_entry, ack_entry, stock_entry, config_entry, behind_entry, transfer_entry}

@@ -7,15 +7,14 @@ use Rattle.kinds.specs.declared.word.Word.{Word}
 use Rattle.wire.specs.declared.entry.Entry.{Entry}
 use Rattle.wire.specs.declared.pair.Configuration.{Configuration}
 use Rattle.wire.specs.declared.pair.Seal.{Seal}
-use Rattle.wire.specs.declared.party.Client.{Client}
 use Rattle.wire.specs.declared.party.Party.{Party}
 use Rattle.wire.specs.declared.party.Party.TheVariants.{Source as TheSource, Client as AClient, Replica as AReplica}
-use Rattle.wire.specs.declared.party.Replica.{Replica}
 use Rattle.wire.specs.declared.set.ReplicaSet.{ReplicaSet}
 use Rattle.wire.specs.declared.text.Text.{Text}
 use Rattle.wire.specs.Entries.{kind_of}
 use Rattle.wire.specs.Sets.{member}
 use Rattle.wire.specs.Texts.{pair_text}
+use Rattle.wire.specs.Parties.{Client, Replica}
 use Rattle.clients.specs.declared.line.Line.{Line}
 use Rattle.clients.specs.declared.line.Stage.{Stage}
 use Rattle.clients.specs.declared.line.Stage.TheVariants.{Idle, Reading, Writing, WritingBack, Over}

@@ -2,9 +2,9 @@
 use Rattle.std.specs.Prelude.{ℕ, ◌+◌, cond, not, ◌||◌, length, is_some, Some, None, Ok, Err, Option, Result}
 use Rattle.kinds.specs.declared.word.Word.{Word}
 use Rattle.wire.specs.declared.entry.Entry.{Entry}
-use Rattle.wire.specs.declared.party.Client.{Client}
 use Rattle.wire.specs.declared.party.Party.{Party}
 use Rattle.wire.specs.declared.party.Party.TheVariants.{Source as TheSource, Client as AClient, Replica as AReplica}
+use Rattle.wire.specs.Parties.{Client}
 use Rattle.clients.specs.declared.fault.ClientFault.{ClientFault}
 use Rattle.clients.specs.declared.fault.ClientFault.TheVariants.{Busy}
 use Rattle.clients.specs.declared.line.Line.{Line}

@@ -3,11 +3,10 @@ use Rattle.std.specs.Prelude.{ℕ, ◌+◌, Bool, true, false, cond, not, ◌&&�
 use Rattle.wire.specs.declared.entry.Entry.{Entry}
 use Rattle.wire.specs.declared.entry.EntryKind.{EntryKind}
 use Rattle.wire.specs.declared.entry.EntryKind.TheVariants.{Read, Write, Transfer, Pair as APair, Ack, Stock, Config, Behind}
-use Rattle.wire.specs.declared.party.Client.{Client}
 use Rattle.wire.specs.declared.party.Party.{Party}
 use Rattle.wire.specs.declared.party.Party.TheVariants.{Source as TheSource, Client as AClient, Replica as AReplica}
-use Rattle.wire.specs.declared.party.Replica.{Replica}
 use Rattle.wire.specs.Entries.{kind_of}
+use Rattle.wire.specs.Parties.{Client, Replica}
 use Rattle.stores.specs.declared.card.Card.{Card}
 use Rattle.stores.specs.declared.store.Saves.{Saves}
 use Rattle.clients.specs.declared.fault.ClientFault.{ClientFault}

@@ -9,7 +9,7 @@ use std::process::Abort;
 use std::test::Fail;
 use stores::{Cabinet, Card, Saves, Store, StoreFault};
 use tapes::Tape;
-use wire::{Pair, Replica, ReplicaSet, Seal, Stamp};
+use wire::{Pair, Replica, ReplicaSet, Seal, Stamp, UnknownParty};
 
 // The record of replica 5 with the card of epoch 258.
 const RECORD: &[u8; 72] = b"BIN1\x05\x01\x09\x00\
@@ -42,8 +42,8 @@ fn card(epoch: u32, ready: bool) -> Card {
     }
 }
 
-fn replica(number: u64) -> Result<Replica, u64> {
-    Replica::new(number).ok_or(number)
+fn replica(number: u64) -> Result<Replica, UnknownParty> {
+    Replica::try_from(number)
 }
 
 // In any store a card that was saved is loaded.

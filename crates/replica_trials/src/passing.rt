@@ -3,29 +3,30 @@ use kinds::Word;
 use std::test::Fail;
 use wire::{
     Client, Configuration, Entry, EntryKind, Pair, Party, Replica, ReplicaSet, Seal, Stamp, Text,
+    UnknownKind,
 };
 
 #[test]
 fn parties_have_numbers(rt: HostRuntime) -> Result<(), Fail> {
     for number in [0, 1, 32, 100, 163] {
-        let party = Party::new(number).ok_or(number)?;
-        assert_eq!(rt; u64::from(party.number()), number);
+        let party = Party::try_from(number)?;
+        assert_eq!(rt; u64::from(u8::from(party)), number);
     }
     for number in [33, 99, 164, 255, 256, u64::MAX] {
-        assert!(rt; Party::new(number).is_none());
+        assert!(rt; Party::try_from(number).is_err());
     }
-    assert!(rt; Replica::new(63).is_some());
-    assert!(rt; Replica::new(64).is_none());
-    assert!(rt; Client::new(0).is_none());
-    assert!(rt; Client::new(32).is_some());
-    assert!(rt; Client::new(33).is_none());
+    assert!(rt; Replica::try_from(63).is_ok());
+    assert!(rt; Replica::try_from(64).is_err());
+    assert!(rt; Client::try_from(0).is_err());
+    assert!(rt; Client::try_from(32).is_ok());
+    assert!(rt; Client::try_from(33).is_err());
     Ok(())
 }
 
 #[test]
 fn sets_hold_what_was_put_in(rt: HostRuntime) -> Result<(), Fail> {
-    let first = Replica::new(0).ok_or(0)?;
-    let last = Replica::new(63).ok_or(63)?;
+    let first = Replica::try_from(0)?;
+    let last = Replica::try_from(63)?;
     let set = ReplicaSet(14);
     assert_eq!(rt; set.contains(first), false);
     assert_eq!(rt; set.with(first), ReplicaSet(15));
@@ -70,10 +71,10 @@ fn entries_carry_configurations(rt: HostRuntime) {
         seal: Seal(7),
     };
     assert_eq!(rt; entry.configuration(), expected);
-    assert_eq!(rt; EntryKind::new(0), None);
-    assert_eq!(rt; EntryKind::new(8), Some(EntryKind::Behind));
-    assert_eq!(rt; EntryKind::new(9), None);
-    assert_eq!(rt; EntryKind::Stock.number(), 6);
+    assert_eq!(rt; EntryKind::try_from(0), Err(UnknownKind(0)));
+    assert_eq!(rt; EntryKind::try_from(8), Ok(EntryKind::Behind));
+    assert_eq!(rt; EntryKind::try_from(9), Err(UnknownKind(9)));
+    assert_eq!(rt; u8::from(EntryKind::Stock), 6);
 }
 
 #[test]
@@ -96,7 +97,7 @@ fn texts_have_fourteen_bytes(rt: HostRuntime) {
         seal: Seal(99),
     };
     assert_eq!(rt;
-        Text::of_configuration(configuration).bytes(),
+        Text::from(configuration).bytes(),
         [67, 0, 2, 1, 0, 0, 15, 0, 0, 0, 0, 0, 0, 0]
     );
 }

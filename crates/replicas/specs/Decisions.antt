@@ -6,10 +6,10 @@ use Rattle.wire.specs.declared.entry.EntryKind.{EntryKind}
 use Rattle.wire.specs.declared.entry.EntryKind.TheVariants.{Read, Write, Transfer, Pair as APair, Ack, Stock, Config, Behind}
 use Rattle.wire.specs.declared.pair.Configuration.{Configuration}
 use Rattle.wire.specs.declared.pair.Pair.{Pair}
-use Rattle.wire.specs.declared.party.Replica.{Replica}
 use Rattle.wire.specs.Entries.{kind_of, pair_of, configuration_of}
 use Rattle.wire.specs.Sets.{member, inserted}
 use Rattle.wire.specs.Stamps.{above}
+use Rattle.wire.specs.Parties.{Replica}
 use Rattle.stores.specs.declared.card.Card.{Card}
 use Rattle.rules.specs.declared.objection.Objection.{Objection}
 use Rattle.rules.specs.declared.objection.Objection.TheVariants.{NotGenuine, NotMember, AlreadyCounted, NotAwaited, NotNext, NotReady}

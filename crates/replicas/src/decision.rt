@@ -130,42 +130,42 @@ pub fn decide(
     let me = party(replica);
     let is_member = card.set.contains(replica);
     let is_shown = entry.configuration().set.contains(replica);
-    match EntryKind::new(entry.kind) {
-        Some(EntryKind::Read | EntryKind::Write) if entry.epoch < card.epoch => {
+    match EntryKind::try_from(entry.kind) {
+        Ok(EntryKind::Read | EntryKind::Write) if entry.epoch < card.epoch => {
             posts(config_entry(me, present(card)))
         }
-        Some(EntryKind::Read | EntryKind::Write) if entry.epoch > card.epoch => {
+        Ok(EntryKind::Read | EntryKind::Write) if entry.epoch > card.epoch => {
             posts(behind_entry(me, entry))
         }
-        Some(EntryKind::Read | EntryKind::Write) if !is_member => Err(Objection::NotMember),
-        Some(EntryKind::Read | EntryKind::Write) if !card.ready => Err(Objection::NotReady),
-        Some(EntryKind::Read) => posts(pair_entry(me, entry, card.pair)),
-        Some(EntryKind::Write) if !genuine => Err(Objection::NotGenuine),
-        Some(EntryKind::Write) if entry.pair().stamp.is_above(card.pair.stamp) => saves(
+        Ok(EntryKind::Read | EntryKind::Write) if !is_member => Err(Objection::NotMember),
+        Ok(EntryKind::Read | EntryKind::Write) if !card.ready => Err(Objection::NotReady),
+        Ok(EntryKind::Read) => posts(pair_entry(me, entry, card.pair)),
+        Ok(EntryKind::Write) if !genuine => Err(Objection::NotGenuine),
+        Ok(EntryKind::Write) if entry.pair().stamp.is_above(card.pair.stamp) => saves(
             holding(card, entry.pair()),
             Some(ack_entry(me, entry)),
         ),
-        Some(EntryKind::Write) => posts(ack_entry(me, entry)),
-        Some(EntryKind::Config) if u64::from(entry.epoch) != u64::from(card.epoch) + 1 => {
+        Ok(EntryKind::Write) => posts(ack_entry(me, entry)),
+        Ok(EntryKind::Config) if u64::from(entry.epoch) != u64::from(card.epoch) + 1 => {
             Err(Objection::NotNext)
         }
-        Some(EntryKind::Config) if !genuine => Err(Objection::NotGenuine),
-        Some(EntryKind::Config) if is_member && !card.ready => Err(Objection::NotReady),
-        Some(EntryKind::Config) if is_shown => saves(
+        Ok(EntryKind::Config) if !genuine => Err(Objection::NotGenuine),
+        Ok(EntryKind::Config) if is_member && !card.ready => Err(Objection::NotReady),
+        Ok(EntryKind::Config) if is_shown => saves(
             entering(card, entry.configuration()),
             Some(transfer_entry(me, present(card))),
         ),
-        Some(EntryKind::Config) => saves(entering(card, entry.configuration()), None),
-        Some(EntryKind::Transfer) if !genuine => Err(Objection::NotGenuine),
-        Some(EntryKind::Transfer) if !is_shown => Err(Objection::NotMember),
-        Some(EntryKind::Transfer) if card.epoch <= entry.epoch => posts(behind_entry(me, entry)),
-        Some(EntryKind::Transfer) => posts(stock_entry(me, entry, card.pair)),
-        Some(EntryKind::Stock)
+        Ok(EntryKind::Config) => saves(entering(card, entry.configuration()), None),
+        Ok(EntryKind::Transfer) if !genuine => Err(Objection::NotGenuine),
+        Ok(EntryKind::Transfer) if !is_shown => Err(Objection::NotMember),
+        Ok(EntryKind::Transfer) if card.epoch <= entry.epoch => posts(behind_entry(me, entry)),
+        Ok(EntryKind::Transfer) => posts(stock_entry(me, entry, card.pair)),
+        Ok(EntryKind::Stock)
             if !is_member || card.ready || u64::from(entry.epoch) + 1 != u64::from(card.epoch) => {
             Err(Objection::NotAwaited)
         }
-        Some(EntryKind::Stock) => stock_from(rules, card, entry, genuine),
-        Some(EntryKind::Behind) => posts(config_entry(me, present(card))),
-        Some(EntryKind::Pair | EntryKind::Ack) | None => Err(Objection::NotAwaited),
+        Ok(EntryKind::Stock) => stock_from(rules, card, entry, genuine),
+        Ok(EntryKind::Behind) => posts(config_entry(me, present(card))),
+        Ok(EntryKind::Pair | EntryKind::Ack) | Err(_) => Err(Objection::NotAwaited),
     }
 }

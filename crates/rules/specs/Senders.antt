@@ -1,7 +1,6 @@
 -- Who sent an entry.
 use Rattle.std.specs.Prelude.{ℕ, ◌-◌, cond, ◌&&◌, None, Option, nat_le}
-use Rattle.wire.specs.declared.party.Replica.{Replica}
-use Rattle.wire.specs.Parties.{replica_of}
+use Rattle.wire.specs.Parties.{Replica, replica_of}
 use Rattle.wire.specs.Sets.{member}
 
 -- the replica that sent an entry, if it is in this set: replica n has the party number 100 + n

@@ -12,7 +12,7 @@ fn plain(sender: u8, kind: EntryKind, addressee: u8, round: u32, epoch: u32) -> 
 {
     Entry {
         sender,
-        kind: kind.number(),
+        kind: u8::from(kind),
         addressee,
         round,
         epoch,
@@ -29,7 +29,7 @@ fn paired(sender: u8, kind: EntryKind, addressee: u8, round: u32, epoch: u32, pa
 {
     Entry {
         sender,
-        kind: kind.number(),
+        kind: u8::from(kind),
         addressee,
         round,
         epoch,
@@ -46,7 +46,7 @@ fn configured(sender: u8, kind: EntryKind, configuration: Configuration) -> Entr
 {
     Entry {
         sender,
-        kind: kind.number(),
+        kind: u8::from(kind),
         addressee: 0,
         round: 0,
         epoch: configuration.epoch,

@@ -95,18 +95,18 @@ impl Rules {
         if self.is_first_configuration(configuration) {
             return true;
         }
-        sealer.check(Text::of_configuration(configuration), configuration.seal)
+        sealer.check(Text::from(configuration), configuration.seal)
     }
 
     // Whether what the entry carries is genuine: a pair, a configuration, or nothing.
     pub fn is_genuine<K: Kind, L: Sealer>(&self, entry: &Entry, sealer: &L) -> bool
         ensures { result ≡ genuine_entry self.now K.Kind.number (L.Sealer.genuine sealer.now) entry.now }
     {
-        match EntryKind::new(entry.kind) {
-            Some(EntryKind::Write | EntryKind::Pair | EntryKind::Stock) => {
+        match EntryKind::try_from(entry.kind) {
+            Ok(EntryKind::Write | EntryKind::Pair | EntryKind::Stock) => {
                 self.is_genuine_pair::<K, L>(entry.pair(), sealer)
             }
-            Some(EntryKind::Transfer | EntryKind::Config) => {
+            Ok(EntryKind::Transfer | EntryKind::Config) => {
                 self.is_genuine_configuration::<L>(entry.configuration(), sealer)
             }
             _ => true,

@@ -8,7 +8,7 @@ use wire::{Replica, ReplicaSet};
 pub fn sender_within(set: ReplicaSet, sender: u8) -> Option<Replica>
     ensures { result ≡ sender_within set.0 sender }
 {
-    let replica = Replica::new(u64::from(sender.checked_sub(100)?))?;
+    let replica = Replica::try_from(u64::from(sender.checked_sub(100)?)).ok()?;
     if set.contains(replica) {
         Some(replica)
     } else {

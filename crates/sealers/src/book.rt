@@ -68,7 +68,7 @@ impl Sealer for Book<'_> {
     }
 
     fn check(&self, text: Text, seal: Seal) -> bool {
-        if Party::new(u64::from(text.party)).is_none() {
+        if Party::try_from(u64::from(text.party)).is_err() {
             return false;
         }
         let first = text.party as u64 * self.share as u64;
@@ -81,7 +81,7 @@ impl Sealer for Book<'_> {
     }
 
     fn left(&self, party: u8) -> u64 {
-        if Party::new(u64::from(party)).is_none() {
+        if Party::try_from(u64::from(party)).is_err() {
             return 0;
         }
         self.end_row(party).saturating_sub(self.next_row(party)) as u64

@@ -35,7 +35,7 @@ impl Source {
             set,
             seal: Seal(0),
         };
-        let seal = sealer.seal(Text::of_configuration(unsealed))?;
+        let seal = sealer.seal(Text::from(unsealed))?;
         self.newest = epoch;
         Ok(Configuration { seal, ..unsealed })
     }

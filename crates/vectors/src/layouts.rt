@@ -46,7 +46,7 @@ pub(crate) fn texts_that_agree() -> usize
         seal: Seal(0),
     };
     let pair = Text::of_pair(1, PAIR).bytes() == PAIR_TEXT;
-    let configuration = Text::of_configuration(configuration).bytes() == CONFIGURATION_TEXT;
+    let configuration = Text::from(configuration).bytes() == CONFIGURATION_TEXT;
     usize::from(pair) + usize::from(configuration)
 }
 
@@ -81,7 +81,7 @@ fn save_record(bytes: &mut [u8]) {
         ready: true,
         pair: PAIR,
     };
-    if let Some(replica) = Replica::new(5) {
+    if let Ok(replica) = Replica::try_from(5) {
         if let Ok(mut tape) = Tape::open(bytes, 0) {
             let _ = tape.save(replica, card);
         }
