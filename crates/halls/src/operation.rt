@@ -6,9 +6,9 @@ pub struct Operation {
     pub client: u8,
     // whether it writes; if not, it reads
     pub writes: bool,
-    // the moments at which it began and ended, counted from 1; 0 while it has not ended
+    // the moments at which it began and ended, counted from 1; no end while it has not ended
     pub began: u32,
-    pub ended: u32,
+    pub ended: Option<u32>,
     // a write's word from its begin on, its stamp and seal once they are taken; a read's pair once it has ended
     pub pair: Pair,
 }

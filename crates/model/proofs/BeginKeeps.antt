@@ -23,7 +23,7 @@ use Rattle.histories.proofs.Posting.{justified_read}
 use Rattle.halls.specs.declared.operation.Operation.{Operation}
 use Rattle.halls.specs.declared.seat.Seat.{Seat}
 use Rattle.model.specs.Tables.{is_full, added, places}
-use Rattle.model.specs.Halls.{World, no_entry, no_operation, no_seat, seat_of, operation_of, with_post, with_seat, with_log}
+use Rattle.model.specs.Halls.{World, no_entry, no_operation, no_seat, seat_of, operation_of, with_post, with_seat, with_log, end_of}
 use Rattle.model.specs.Beginning.{new_operation, word_or_none}
 use Rattle.model.proofs.Frames.{history_added, later_card, later_configuration, later_seat, later_text}
 use Rattle.model.proofs.Invariants.{views, history, stamp_number, StampedWrite, OverBefore, SettledSomewhere, OperationRule, ReadingRule, SeatRule, LogRule, ends, Holds, Later}
@@ -35,10 +35,10 @@ pub not_reading : (s : Stage) → is_reading s ≡ false → Reading ≡ s → �
 not_reading s is e = clash (sym is ∙ sym (ap is_reading e))
 
 -- one more operation that has not ended
-pub ends_begun : (ops : List Operation) (op : Operation) → op.ended ≡ 0 → ends (ops ++ (op ∷ [])) ≡ ends ops
+pub ends_begun : (ops : List Operation) (op : Operation) → end_of op ≡ 0 → ends (ops ++ (op ∷ [])) ≡ ends ops
 unfolding ends
 ends_begun [] op e = omega arith
-ends_begun (o ∷ ops) op e = ap (λ n. min 1 o.ended + n) (ends_begun ops op e)
+ends_begun (o ∷ ops) op e = ap (λ n. min 1 (end_of o) + n) (ends_begun ops op e)
 
 abbrev pub begin_seat : World → ℕ → Option Word → Seat
 begin_seat w c word = record { line = reading_next (seat_of w.hall c).line word; operation = length w.hall.log.list; lodged = (seat_of w.hall c).lodged }
@@ -88,13 +88,13 @@ module _ (kind : ℕ) (sealed : List Text) (w : World) (holds : Holds kind seale
   past_op k gt = get_or_past (w.hall.log.list ++ (new_operation client.number word (w.hall.moment + 1) ∷ [])) k no_operation (simp length-append (omega arith))
 
   -- what has ended or is stamped is old
-  ended_old : (k : ℕ) → 0 < (operation_of (begin_world w client word open_place given).hall k).ended → k < length w.hall.log.list
+  ended_old : (k : ℕ) → 0 < end_of (operation_of (begin_world w client word open_place given).hall k) → k < length w.hall.log.list
   ended_old k o = by_place (place_of k)
     where
       by_place : Place k → k < length w.hall.log.list
       by_place (old_one lt) = lt
-      by_place (new_one e) = absurd (omega (arith, o, ap (λ z. z.ended) (subst (λ m. operation_of (begin_world w client word open_place given).hall m ≡ new_operation client.number word (w.hall.moment + 1)) e new_op)))
-      by_place (none_there gt) = absurd (omega (arith, o, ap (λ z. z.ended) (past_op k gt)))
+      by_place (new_one e) = absurd (omega (arith, o, ap (λ z. end_of z) (subst (λ m. operation_of (begin_world w client word open_place given).hall m ≡ new_operation client.number word (w.hall.moment + 1)) e new_op)))
+      by_place (none_there gt) = absurd (omega (arith, o, ap (λ z. end_of z) (past_op k gt)))
 
   stamped_old : (k : ℕ) → StampedWrite (begin_world w client word open_place given).hall k → StampedWrite w.hall k
   stamped_old k s = by_place (place_of k)
@@ -123,16 +123,16 @@ module _ (kind : ℕ) (sealed : List Text) (w : World) (holds : Holds kind seale
     began = λ k lt. ap (λ z. z.began) (old_op k lt);
     stamp = λ k s. ap (λ z. z.pair) (old_op k s.logged);
     ended = λ k o. old_op k (was_old k o);
-    ending = λ k z o. absurd (omega (arith, z, o, ap (λ p. p.ended) (old_op k (ended_old k o))));
+    ending = λ k z o. absurd (omega (arith, z, o, ap (λ p. end_of p) (old_op k (ended_old k o))));
   }
     where
-      was_old : (k : ℕ) → 0 < (operation_of w.hall k).ended → k < length w.hall.log.list
+      was_old : (k : ℕ) → 0 < end_of (operation_of w.hall k) → k < length w.hall.log.list
       was_old k o = by_place (place_of k)
         where
           by_place : Place k → k < length w.hall.log.list
           by_place (old_one lt) = lt
-          by_place (new_one e) = absurd (omega (arith, o, ap (λ z. z.ended) (get_or_past w.hall.log.list k no_operation (omega arith))))
-          by_place (none_there gt) = absurd (omega (arith, o, ap (λ z. z.ended) (get_or_past w.hall.log.list k no_operation (omega arith))))
+          by_place (new_one e) = absurd (omega (arith, o, ap (λ z. end_of z) (get_or_past w.hall.log.list k no_operation (omega arith))))
+          by_place (none_there gt) = absurd (omega (arith, o, ap (λ z. end_of z) (get_or_past w.hall.log.list k no_operation (omega arith))))
 
   log_begun : LogRule (begin_world w client word open_place given)
   unfolding later_begun history
@@ -222,7 +222,7 @@ module _ (kind : ℕ) (sealed : List Text) (w : World) (holds : Holds kind seale
     back_known = λ e. absurd (not_reading WritingBack refl e);
     back_reads = λ e. absurd (not_reading WritingBack refl e);
     back_after = λ e. absurd (not_reading WritingBack refl e);
-    open_reading = λ e. record { unended = ap (λ z. z.ended) new_op; counted = empty_within _; few = omega (arith, ones_empty) };
+    open_reading = λ e. record { unended = ap (λ z. end_of z) new_op; counted = empty_within _; few = omega (arith, ones_empty) };
     open_writing = λ e. absurd (not_reading Writing refl e);
     open_back = λ e. absurd (not_reading WritingBack refl e);
     over_ended = λ e. absurd (not_reading Over refl e);

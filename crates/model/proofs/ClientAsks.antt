@@ -20,7 +20,7 @@ use Rattle.histories.specs.Histories.{Fresh}
 use Rattle.histories.proofs.Posting.{justified_read, justified_write}
 use Rattle.halls.specs.declared.seat.Seat.{Seat}
 use Rattle.model.specs.Tables.{is_full, added}
-use Rattle.model.specs.Halls.{Hall, World, operation_of}
+use Rattle.model.specs.Halls.{Hall, World, operation_of, end_of}
 use Rattle.model.proofs.ClientSteps.{client_low, client_high}
 use Rattle.model.proofs.Frames.{later_pair}
 use Rattle.model.proofs.Invariants.{history, stamp_number, KnownConfiguration, KnownPair, Genuine, OverBefore, SendingRule, OpenRule, OwnRule, SeatRule, Holds}
@@ -69,7 +69,7 @@ module _ {kind : ℕ} {sealed : List Text} {w : World} (holds : Holds kind seale
         (counts_kept line w.hall.seals w.genuine p (logging_none w client.number) (λ t s e. e) r (omega arith) (λ j s. record { logged = s.logged; writes = s.writes; stamped = s.stamped }))
         (λ busy. own_moved line w.hall.seals w.genuine p (logging_none w client.number) (λ t s e. e) r own word (λ x e. own.word x (sym word ∙ e)))
 
-    open_asked : line.counted.0 ≡ 0 → (operation_of w.hall seat.operation).ended ≡ 0
+    open_asked : line.counted.0 ≡ 0 → end_of (operation_of w.hall seat.operation) ≡ 0
         → OpenRule (moved w client.number (with_line seat line) w.hall.log.list w.hall.moment (added w.hall.post x) w.hall.seals w.genuine) client.number (with_line seat line)
     open_asked none unended = record {
       unended = unended;

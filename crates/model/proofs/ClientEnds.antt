@@ -1,6 +1,6 @@
 -- The steps of a client that end its operation: a read whose stamps agree, a write, and a write-back.
 -- The operation takes the next moment as its end, and the pair in flight.
-use Rattle.std.proofs.Common.{◌≡◌, ℕ, ◌+◌, ◌*◌, ◌<◌, ◌≤◌, true, false, List, length, set, None, sym, refl, ap, ◌∙◌, subst, ⊎_elim, arith}
+use Rattle.std.proofs.Common.{Some, ◌≡◌, ℕ, ◌+◌, ◌*◌, ◌<◌, ◌≤◌, true, false, List, length, set, None, sym, refl, ap, ◌∙◌, subst, ⊎_elim, arith}
 use lib.Count.{ones}
 use Rattle.std.proofs.lemmas.Bool.{both_ways, cases_eq, leb-true}
 use Rattle.wire.specs.declared.text.Text.{Text}
@@ -15,7 +15,7 @@ use Rattle.quorums.specs.Quorums.{Within}
 use Rattle.quorums.proofs.Insertion.{inserted_within}
 use Rattle.halls.specs.declared.operation.Operation.{Operation}
 use Rattle.halls.specs.declared.seat.Seat.{Seat}
-use Rattle.model.specs.Halls.{World, operation_of}
+use Rattle.model.specs.Halls.{World, operation_of, end_of}
 use Rattle.model.specs.Delivering.{entry_of}
 use Rattle.model.proofs.ClientMoves.{Hears, Acked, heard}
 use Rattle.model.proofs.ClientSteps.{client_low, writing_cases}
@@ -34,7 +34,7 @@ ended_op w seat line = record {
   client = (operation_of w.hall seat.operation).client;
   writes = (operation_of w.hall seat.operation).writes;
   began = (operation_of w.hall seat.operation).began;
-  ended = w.hall.moment + 1;
+  ended = Some (w.hall.moment + 1);
   pair = line.highest;
 }
 
@@ -46,7 +46,7 @@ pub record Ending (w : World) (c : ℕ) (seat : Seat) (line : Line) : Type 0 whe
   pub word : line.word ≡ seat.line.word
   pub configuration : line.configuration ≡ seat.line.configuration
   pub own : OwnRule w c seat
-  pub unended : (operation_of w.hall seat.operation).ended ≡ 0
+  pub unended : end_of (operation_of w.hall seat.operation) ≡ 0
   pub settled : SettledSomewhere (views w.hall) (history w.hall) (stamp_number line.highest)
   pub known : KnownPair w.hall line.highest
   pub writes : (operation_of w.hall seat.operation).writes ≡ true → StampedWrite w.hall seat.operation

@@ -19,7 +19,7 @@ use Rattle.quorums.proofs.Sizes.{ones_empty}
 use Rattle.halls.specs.declared.operation.Operation.{Operation}
 use Rattle.halls.specs.declared.seat.Seat.{Seat}
 use Rattle.model.specs.Tables.{is_full, added}
-use Rattle.model.specs.Halls.{World, no_operation, operation_of}
+use Rattle.model.specs.Halls.{World, no_operation, operation_of, end_of}
 use Rattle.model.specs.Delivering.{entry_of}
 use Rattle.model.proofs.ClientAsks.{posting_write, write_posted, none_counted}
 use Rattle.model.proofs.ClientMoves.{Hears, heard, forward}
@@ -62,7 +62,7 @@ pub record Stamping (w : World) (client : Client) (seat : Seat) (word : Word) (l
   pub writer : line.highest.stamp.writer ≡ client.number
   pub pair_word : line.highest.word ≡ word
   pub own : OwnRule w client.number seat
-  pub unended : (operation_of w.hall seat.operation).ended ≡ 0
+  pub unended : end_of (operation_of w.hall seat.operation) ≡ 0
   pub unstamped : (operation_of w.hall seat.operation).pair.stamp.count ≡ 0
   pub higher : seat.line.last_count < line.highest.stamp.count
   pub low : line.highest.stamp.count ≤ length w.hall.post.list + 1
@@ -180,7 +180,7 @@ module _ {kind : ℕ} {sealed : List Text} {w : World} (holds : Holds kind seale
         })
         (ap (λ op. op.pair) (set_here step)) now_stamped
         (record {
-          unended = ap (λ op. op.ended) (set_here step) ∙ f.unended;
+          unended = ap (λ op. end_of op) (set_here step) ∙ f.unended;
           counted = rw f.counted (empty_within line.configuration.set.0);
           few = rw f.counted (omega (arith, ones_empty));
         }))

@@ -26,7 +26,7 @@ use Rattle.halls.specs.declared.fault.HallFault.{HallFault}
 use Rattle.halls.specs.declared.operation.Operation.{Operation}
 use Rattle.halls.specs.declared.seat.Seat.{Seat}
 use Rattle.model.specs.Tables.{is_full}
-use Rattle.model.specs.Halls.{Hall, World, Kind, no_operation, no_seat, seat_of, operation_of, has_its_tables, party_in, with_seat, with_store}
+use Rattle.model.specs.Halls.{Hall, World, Kind, no_operation, no_seat, seat_of, operation_of, has_its_tables, party_in, with_seat, with_store, end_of}
 use Rattle.model.specs.Answers.{Answer, done, slip, pair, refused, Outcome, has_moment}
 use Rattle.model.specs.Beginning.{begin_called, begin_by, begin_done, new_operation}
 use Rattle.model.specs.Calls.{Call, issue, begin_read, begin_write, deliver, call_off, collect, lodge, redeem, meddle, Step}
@@ -51,10 +51,10 @@ pub record SameLog (h h' : Hall) : Type 0 where
   pub client : (k : ℕ) → (operation_of h' k).client ≡ (operation_of h k).client
   pub writes : (k : ℕ) → (operation_of h' k).writes ≡ (operation_of h k).writes
   pub began : (k : ℕ) → (operation_of h' k).began ≡ (operation_of h k).began
-  pub ended : (k : ℕ) → (operation_of h' k).ended ≡ (operation_of h k).ended
+  pub ended : (k : ℕ) → end_of (operation_of h' k) ≡ end_of (operation_of h k)
   -- a write keeps its word, an ended operation its pair
   pub word : (k : ℕ) → (operation_of h k).writes ≡ true → (operation_of h' k).pair.word ≡ (operation_of h k).pair.word
-  pub over : (k : ℕ) → 0 < (operation_of h k).ended → (operation_of h' k).pair ≡ (operation_of h k).pair
+  pub over : (k : ℕ) → 0 < end_of (operation_of h k) → (operation_of h' k).pair ≡ (operation_of h k).pair
 
 -- client c began an operation
 pub record BegunLog (h h' : Hall) (c : ℕ) (word : Option Word) : Type 0 where
@@ -73,8 +73,8 @@ pub record EndedLog (h h' : Hall) (c k : ℕ) : Type 0 where
   pub next_moment : h'.moment ≡ h.moment + 1
   pub logged : k < length h.log.list
   pub others : (j : ℕ) → (j ≡ k → ⊥) → operation_of h' j ≡ operation_of h j
-  pub unended : (operation_of h k).ended ≡ 0
-  pub now : (operation_of h' k).ended ≡ h.moment + 1
+  pub unended : end_of (operation_of h k) ≡ 0
+  pub now : end_of (operation_of h' k) ≡ h.moment + 1
   pub by : (operation_of h k).client ≡ c
   pub client : (operation_of h' k).client ≡ (operation_of h k).client
   pub writes : (operation_of h' k).writes ≡ (operation_of h k).writes
@@ -167,7 +167,7 @@ module _ (kind : ℕ) (sealed : List Text) (w : World) (holds : Holds kind seale
     client = λ j. set_keeps (λ o. o.client) w.hall.log.list _ j _ (ap (λ o. o.client) same);
     writes = λ j. set_keeps (λ o. o.writes) w.hall.log.list _ j _ (ap (λ o. o.writes) same);
     began = λ j. set_keeps (λ o. o.began) w.hall.log.list _ j _ (ap (λ o. o.began) same);
-    ended = λ j. set_keeps (λ o. o.ended) w.hall.log.list _ j _ (ap (λ o. o.ended) same);
+    ended = λ j. set_keeps (λ o. end_of o) w.hall.log.list _ j _ (ap (λ o. end_of o) same);
     word = λ j y. set_keeps (λ o. o.pair.word) w.hall.log.list _ j _ (ap (λ o. o.pair.word) same);
     over = λ j o. set_keeps (λ o. o.pair) w.hall.log.list _ j _ (ap (λ o. o.pair) same);
   })
@@ -182,7 +182,7 @@ module _ (kind : ℕ) (sealed : List Text) (w : World) (holds : Holds kind seale
     client = λ j. set_keeps (λ o. o.client) w.hall.log.list _ j _ (ap (λ o. o.client) same);
     writes = λ j. set_keeps (λ o. o.writes) w.hall.log.list _ j _ (ap (λ o. o.writes) same);
     began = λ j. set_keeps (λ o. o.began) w.hall.log.list _ j _ (ap (λ o. o.began) same);
-    ended = λ j. set_keeps (λ o. o.ended) w.hall.log.list _ j _ (ap (λ o. o.ended) same);
+    ended = λ j. set_keeps (λ o. end_of o) w.hall.log.list _ j _ (ap (λ o. end_of o) same);
     word = λ j y. set_keeps (λ o. o.pair.word) w.hall.log.list _ j _ (ap (λ o. o.pair.word) same ∙ word);
     over = λ j o. ap (λ z. z.pair) (set_at w.hall.log.list (seat_of w.hall client.number).operation j _ (λ e. not_it j e o));
   })
@@ -197,8 +197,8 @@ module _ (kind : ℕ) (sealed : List Text) (w : World) (holds : Holds kind seale
           }
       same = rw (not_ended, stamping)
 
-      not_it : (j : ℕ) → j ≡ (seat_of w.hall client.number).operation → 0 < (operation_of w.hall j).ended → ⊥
-      not_it j e o = omega (arith, subst (λ m. 0 < (operation_of w.hall m).ended) e o, ((holds.seats client.number low high).open_reading reading).unended)
+      not_it : (j : ℕ) → j ≡ (seat_of w.hall client.number).operation → 0 < end_of (operation_of w.hall j) → ⊥
+      not_it j e o = omega (arith, subst (λ m. 0 < end_of (operation_of w.hall m)) e o, ((holds.seats client.number low high).open_reading reading).unended)
   log_turn (ends_now ended over busy word) = closes (record {
     rules_same = refl;
     marked_same = refl;
@@ -207,7 +207,7 @@ module _ (kind : ℕ) (sealed : List Text) (w : World) (holds : Holds kind seale
     logged = own_op.logged;
     others = λ j ne. set_at w.hall.log.list (seat_of w.hall client.number).operation j _ ne;
     unended = unended (seat_of w.hall client.number).line.stage refl busy;
-    now = ap (λ o. o.ended) put;
+    now = ap (λ o. end_of o) put;
     by = own_op.client;
     client = ap (λ o. o.client) put;
     writes = ap (λ o. o.writes) put;
@@ -223,7 +223,7 @@ module _ (kind : ℕ) (sealed : List Text) (w : World) (holds : Holds kind seale
       own_op : OwnRule w client.number (seat_of w.hall client.number)
       own_op = mine.own (opens_busy _ busy)
 
-      unended : (s : Stage) → (seat_of w.hall client.number).line.stage ≡ s → is_open s ≡ true → (operation_of w.hall (seat_of w.hall client.number).operation).ended ≡ 0
+      unended : (s : Stage) → (seat_of w.hall client.number).line.stage ≡ s → is_open s ≡ true → end_of (operation_of w.hall (seat_of w.hall client.number).operation) ≡ 0
       unended Idle is b = absurd (clash b)
       unended Reading is b = (mine.open_reading is).unended
       unended Writing is b = (mine.open_writing is).unended
@@ -239,7 +239,7 @@ module _ (kind : ℕ) (sealed : List Text) (w : World) (holds : Holds kind seale
             client = (operation_of w.hall (seat_of w.hall client.number).operation).client;
             writes = (operation_of w.hall (seat_of w.hall client.number).operation).writes;
             began = (operation_of w.hall (seat_of w.hall client.number).operation).began;
-            ended = w.hall.moment + 1;
+            ended = Some (w.hall.moment + 1);
             pair = line.highest;
           }
       put = get_or-set_same w.hall.log.list (seat_of w.hall client.number).operation _ no_operation own_op.logged ∙ rw ended

@@ -29,7 +29,7 @@ use Rattle.histories.proofs.Growth.{stocked_to_grows, evidence_grows, answered_g
 use Rattle.histories.proofs.Extension.{evidence_extends, settled_extends}
 use Rattle.halls.specs.declared.seat.Seat.{Seat}
 use Rattle.model.specs.Tables.{added}
-use Rattle.model.specs.Halls.{Hall, World, no_entry, no_configuration, no_operation, operation_of, with_post}
+use Rattle.model.specs.Halls.{Hall, World, no_entry, no_configuration, no_operation, operation_of, with_post, end_of}
 use Rattle.model.specs.Delivering.{entry_of}
 use Rattle.model.proofs.Invariants.{views, issued_as, history, stamp_number, KnownConfiguration, StampedWrite, KnownPair, KnownText, Genuine, CardRule, AnswerRule, OverBefore, SettledSomewhere, ReadingRule, SendingRule, OpenRule, OwnRule, SeatRule, Later}
 use Rattle.model.proofs.Invariants.KnownPair.{the_opening, a_write}
@@ -107,12 +107,12 @@ later_genuine {w} {w'} kind l p g =
 pub later_over : {w w' : World} → Later w w' → (k j : ℕ) → j < length w.hall.log.list → (operation_of w.hall j).began ≤ w.hall.moment → OverBefore w'.hall k j → OverBefore w.hall k j
 later_over {w} {w'} l k j lt by over =
     let log = w.hall.log.list in
-    let ended : 0 < (operation_of w.hall k).ended =
-    ⊎_elim (λ before. before) (λ unended. absurd (omega (arith, l.ending k (omega arith) over.over, over.before, l.began j lt))) (cases_lt 0 (operation_of w.hall k).ended) in
+    let ended : 0 < end_of (operation_of w.hall k) =
+    ⊎_elim (λ before. before) (λ unended. absurd (omega (arith, l.ending k (omega arith) over.over, over.before, l.began j lt))) (cases_lt 0 (end_of (operation_of w.hall k))) in
     record {
-      logged = ⊎_elim (λ old. old) (λ new. absurd (omega (arith, ended, ap (λ op. op.ended) (get_or_past log k no_operation new)))) (cases_lt k (length log));
+      logged = ⊎_elim (λ old. old) (λ new. absurd (omega (arith, ended, ap (λ op. end_of op) (get_or_past log k no_operation new)))) (cases_lt k (length log));
       over = ended;
-      before = omega (arith, over.before, ap (λ op. op.ended) (l.ended k ended), l.began j lt);
+      before = omega (arith, over.before, ap (λ op. end_of op) (l.ended k ended), l.began j lt);
     }
 
 -- nothing among the entries is an answer of replica q
@@ -192,7 +192,7 @@ module _ {w w' : World} (l : Later w w') (c : ℕ) (seat : Seat) (same : operati
 
   later_open : OpenRule w c seat → OpenRule w' c seat
   later_open rule = record {
-    unended = ap (λ op. op.ended) same ∙ rule.unended;
+    unended = ap (λ op. end_of op) same ∙ rule.unended;
     counted = rule.counted;
     few = omega (arith, rule.few, ap (λ rules. rules.faults) l.rules);
   }
@@ -259,6 +259,6 @@ later_seat {w} {w'} kind c seat l quiet same by none stamps seals rule = record 
   open_reading = λ at. later_open l c seat (same (ap is_idle at)) (rule.open_reading at);
   open_writing = λ at. later_open l c seat (same (ap is_idle at)) (rule.open_writing at);
   open_back = λ at. later_open l c seat (same (ap is_idle at)) (rule.open_back at);
-  over_ended = λ at. omega (arith, rule.over_ended at, ap (λ op. op.ended) (same (ap is_idle at)));
+  over_ended = λ at. omega (arith, rule.over_ended at, ap (λ op. end_of op) (same (ap is_idle at)));
   over_pair = λ at. ap (λ op. op.pair) (same (ap is_idle at)) ∙ rule.over_pair at;
 }

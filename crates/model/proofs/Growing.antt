@@ -2,7 +2,7 @@
 -- From the events of calls, over as many calls as there are.
 use Rattle.std.proofs.Common.{◌≡◌, ℕ, ◌<◌, ◌≤◌, true, length, sym, refl, ap, ◌∙◌, subst, arith}
 use native.Mathlib.Decide.{ℕ_discrete, dec_lt}
-use Rattle.model.specs.Halls.{Hall, Kind, no_operation, operation_of}
+use Rattle.model.specs.Halls.{Hall, Kind, no_operation, operation_of, end_of}
 use Rattle.model.specs.Answers.{Answer}
 use Rattle.model.specs.Calls.{Call}
 use Rattle.model.proofs.Events.{Event, nothing, begins, ends}
@@ -18,16 +18,16 @@ pub record Grows (h h' : Hall) : Type 0 where
   pub writes : (k : ℕ) → k < length h.log.list → (operation_of h' k).writes ≡ (operation_of h k).writes
   pub began : (k : ℕ) → k < length h.log.list → (operation_of h' k).began ≡ (operation_of h k).began
   pub word : (k : ℕ) → k < length h.log.list → (operation_of h k).writes ≡ true → (operation_of h' k).pair.word ≡ (operation_of h k).pair.word
-  pub ended : (k : ℕ) → 0 < (operation_of h k).ended → (operation_of h' k).ended ≡ (operation_of h k).ended
-  pub pair : (k : ℕ) → 0 < (operation_of h k).ended → (operation_of h' k).pair ≡ (operation_of h k).pair
+  pub ended : (k : ℕ) → 0 < end_of (operation_of h k) → end_of (operation_of h' k) ≡ end_of (operation_of h k)
+  pub pair : (k : ℕ) → 0 < end_of (operation_of h k) → (operation_of h' k).pair ≡ (operation_of h k).pair
 
 -- what has ended is in the log
-pub ended_logged : (h : Hall) (k : ℕ) → 0 < (operation_of h k).ended → k < length h.log.list
+pub ended_logged : (h : Hall) (k : ℕ) → 0 < end_of (operation_of h k) → k < length h.log.list
 ended_logged h k o = by_place (dec_lt k (length h.log.list))
   where
     by_place : Dec (k < length h.log.list) → k < length h.log.list
     by_place (yes lt) = lt
-    by_place (no past) = absurd (omega (arith, o, ap (λ z. z.ended) (get_or_past h.log.list k no_operation (omega arith))))
+    by_place (no past) = absurd (omega (arith, o, ap (λ z. end_of z) (get_or_past h.log.list k no_operation (omega arith))))
 
 pub grows_same : (h : Hall) → Grows h h
 grows_same h = record {
@@ -60,7 +60,7 @@ grows_trans {f} {g} {h} a b = record {
     more : (k : ℕ) → k < length f.log.list → k < length g.log.list
     more k lt = omega (arith, a.longer)
 
-    still : (k : ℕ) → 0 < (operation_of f k).ended → 0 < (operation_of g k).ended
+    still : (k : ℕ) → 0 < end_of (operation_of f k) → 0 < end_of (operation_of g k)
     still k o = omega (arith, a.ended k o)
 
 pub event_grows : {V : Type 0} {kind : Kind V} {h h' : Hall} {call : Call V} {a : Answer V} → Event kind h h' call a → Grows h h'
@@ -85,7 +85,7 @@ event_grows {h = h} {h' = h'} (begins c word call answer b) = record {
   writes = λ k lt. ap (λ z. z.writes) (b.old k lt);
   began = λ k lt. ap (λ z. z.began) (b.old k lt);
   word = λ k lt y. ap (λ z. z.pair.word) (b.old k lt);
-  ended = λ k o. ap (λ z. z.ended) (b.old k (ended_logged h k o));
+  ended = λ k o. ap (λ z. end_of z) (b.old k (ended_logged h k o));
   pair = λ k o. ap (λ z. z.pair) (b.old k (ended_logged h k o));
 }
 event_grows {h = h} {h' = h'} (ends c k low high none e) = record {
@@ -97,12 +97,12 @@ event_grows {h = h} {h' = h'} (ends c k low high none e) = record {
   writes = λ j lt. kept_at (λ z. z.writes) e.writes j;
   began = λ j lt. kept_at (λ z. z.began) e.began j;
   word = λ j lt y. word_at j y (ℕ_discrete j k);
-  ended = λ j o. ap (λ z. z.ended) (e.others j (not_it j o));
+  ended = λ j o. ap (λ z. end_of z) (e.others j (not_it j o));
   pair = λ j o. ap (λ z. z.pair) (e.others j (not_it j o));
 }
   where
-    not_it : (j : ℕ) → 0 < (operation_of h j).ended → j ≡ k → ⊥
-    not_it j o same = omega (arith, subst (λ m. 0 < (operation_of h m).ended) same o, e.unended)
+    not_it : (j : ℕ) → 0 < end_of (operation_of h j) → j ≡ k → ⊥
+    not_it j o same = omega (arith, subst (λ m. 0 < end_of (operation_of h m)) same o, e.unended)
 
     kept_at : {X : Type 0} (f : Rattle.halls.specs.declared.operation.Operation.Operation → X) → f (operation_of h' k) ≡ f (operation_of h k) → (j : ℕ) → f (operation_of h' j) ≡ f (operation_of h j)
     kept_at f at j = by_place (ℕ_discrete j k)

@@ -1,7 +1,7 @@
 -- The moments of the log keep the order of begins and ends.
 -- Each begin and each end takes the moment after that of the world it meets.
 use Rattle.std.proofs.Common.{◌≡◌, ℕ, ◌+◌, ◌<◌, sym, ◌∙◌, arith}
-use Rattle.model.specs.Halls.{World, Kind, operation_of}
+use Rattle.model.specs.Halls.{World, Kind, operation_of, end_of}
 use Rattle.model.specs.Moments.{Event, begins, ends, MomentsInOrder}
 use Rattle.model.specs.Runs.{Lawful, Opened, Run, Unforged}
 use Rattle.model.proofs.Growing.{Grows}
@@ -31,7 +31,7 @@ module _ {V : Type 0} (kind : Kind V) (v : V) (start : World) (lawful : Lawful k
       at : EndAt kind v start lawful opened run unforged p e.client e.place u
       at = ended_at kind v start lawful opened run unforged o p u e
 
-      then_over : 0 < (operation_of (run.world (p + 1)).hall e.place).ended
+      then_over : 0 < end_of (operation_of (run.world (p + 1)).hall e.place)
       then_over = omega (arith, at.log.now)
 
       g : Grows (run.world (p + 1)).hall (run.world run.calls).hall

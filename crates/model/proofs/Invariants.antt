@@ -24,7 +24,7 @@ use Rattle.histories.specs.Reads.{Answered}
 use Rattle.halls.specs.declared.operation.Operation.{Operation}
 use Rattle.halls.specs.declared.seat.Seat.{Seat}
 use Rattle.model.specs.Tables.{places}
-use Rattle.model.specs.Halls.{Hall, World, no_configuration, has_its_tables, seat_of, operation_of}
+use Rattle.model.specs.Halls.{Hall, World, no_configuration, has_its_tables, seat_of, operation_of, end_of}
 use Rattle.model.specs.Runs.{text_of}
 use Rattle.model.specs.Delivering.{entry_of}
 
@@ -122,8 +122,8 @@ pub record AnswerRule (kind : ℕ) (w : World) (x : Entry) : Type 0 where
 -- the operation at place k of the log had ended before the one at place j began
 pub record OverBefore (h : Hall) (k j : ℕ) : Type 0 where
   pub logged : k < length h.log.list
-  pub over : 0 < (operation_of h k).ended
-  pub before : (operation_of h k).ended < (operation_of h j).began
+  pub over : 0 < end_of (operation_of h k)
+  pub before : end_of (operation_of h k) < (operation_of h j).began
 
 -- settled in some epoch
 pub record SettledSomewhere (v : Views) (past : List Entry) (t : ℕ) : Type 0 where
@@ -155,7 +155,7 @@ pub record SendingRule (kind : ℕ) (w : World) (c : ℕ) (seat : Seat) : Type 0
 
 -- a round is open: the operation is logged and has not ended, and fewer than 2f+1 are counted
 pub record OpenRule (w : World) (c : ℕ) (seat : Seat) : Type 0 where
-  pub unended : (operation_of w.hall seat.operation).ended ≡ 0
+  pub unended : end_of (operation_of w.hall seat.operation) ≡ 0
   pub counted : Within seat.line.counted.0 seat.line.configuration.set.0
   pub few : ones seat.line.counted.0 < 2 * w.hall.rules.faults + 1
 
@@ -191,7 +191,7 @@ pub record SeatRule (kind : ℕ) (w : World) (c : ℕ) (seat : Seat) : Type 0 wh
   pub open_reading : seat.line.stage ≡ Reading → OpenRule w c seat
   pub open_writing : seat.line.stage ≡ Writing → OpenRule w c seat
   pub open_back : seat.line.stage ≡ WritingBack → OpenRule w c seat
-  pub over_ended : seat.line.stage ≡ Over → 0 < (operation_of w.hall seat.operation).ended
+  pub over_ended : seat.line.stage ≡ Over → 0 < end_of (operation_of w.hall seat.operation)
   pub over_pair : seat.line.stage ≡ Over → (operation_of w.hall seat.operation).pair ≡ seat.line.highest
 
 -- of the operation at place k of the log
@@ -200,19 +200,19 @@ pub record OperationRule (w : World) (k : ℕ) : Type 0 where
   pub client_high : (operation_of w.hall k).client ≤ w.hall.rules.clients
   pub began : 0 < (operation_of w.hall k).began
   pub began_by : (operation_of w.hall k).began ≤ w.hall.moment
-  pub ended_after : 0 < (operation_of w.hall k).ended → (operation_of w.hall k).began < (operation_of w.hall k).ended
-  pub ended_by : (operation_of w.hall k).ended ≤ w.hall.moment
-  pub settled : 0 < (operation_of w.hall k).ended → SettledSomewhere (views w.hall) (history w.hall) (stamp_number (operation_of w.hall k).pair)
-  pub known : 0 < (operation_of w.hall k).ended → KnownPair w.hall (operation_of w.hall k).pair
+  pub ended_after : 0 < end_of (operation_of w.hall k) → (operation_of w.hall k).began < end_of (operation_of w.hall k)
+  pub ended_by : end_of (operation_of w.hall k) ≤ w.hall.moment
+  pub settled : 0 < end_of (operation_of w.hall k) → SettledSomewhere (views w.hall) (history w.hall) (stamp_number (operation_of w.hall k).pair)
+  pub known : 0 < end_of (operation_of w.hall k) → KnownPair w.hall (operation_of w.hall k).pair
   -- a write's writer is its client, and a write that has ended has its stamp
   pub writer : (operation_of w.hall k).writes ≡ true → 0 < (operation_of w.hall k).pair.stamp.count → (operation_of w.hall k).pair.stamp.writer ≡ (operation_of w.hall k).client
-  pub stamped : (operation_of w.hall k).writes ≡ true → 0 < (operation_of w.hall k).ended → 0 < (operation_of w.hall k).pair.stamp.count
+  pub stamped : (operation_of w.hall k).writes ≡ true → 0 < end_of (operation_of w.hall k) → 0 < (operation_of w.hall k).pair.stamp.count
   pub low : (operation_of w.hall k).writes ≡ true → (operation_of w.hall k).pair.stamp.count ≤ length w.hall.post.list
 
 -- how many operations have ended
 unfoldable pub ends : List Operation → ℕ
 ends [] = 0
-ends (op ∷ ops) = min 1 op.ended + ends ops
+ends (op ∷ ops) = min 1 (end_of op) + ends ops
 
 pub record LogRule (w : World) : Type 0 where
   -- each begin and each end has taken one moment
@@ -222,7 +222,7 @@ pub record LogRule (w : World) : Type 0 where
   -- no two writes have the same stamp
   pub own_stamp : (j k : ℕ) → StampedWrite w.hall j → StampedWrite w.hall k → stamp_number (operation_of w.hall j).pair ≡ stamp_number (operation_of w.hall k).pair → j ≡ k
   -- stamps do not fall in real time, and rise at writes
-  pub falls_not : (j k : ℕ) → OverBefore w.hall j k → k < length w.hall.log.list → (operation_of w.hall k).writes ≡ false → 0 < (operation_of w.hall k).ended → stamp_number (operation_of w.hall j).pair ≤ stamp_number (operation_of w.hall k).pair
+  pub falls_not : (j k : ℕ) → OverBefore w.hall j k → k < length w.hall.log.list → (operation_of w.hall k).writes ≡ false → 0 < end_of (operation_of w.hall k) → stamp_number (operation_of w.hall j).pair ≤ stamp_number (operation_of w.hall k).pair
   pub rises : (j k : ℕ) → OverBefore w.hall j k → StampedWrite w.hall k → stamp_number (operation_of w.hall j).pair < stamp_number (operation_of w.hall k).pair
 
 -- all of it; `sealed` are the texts that the calls so far have sealed
@@ -258,5 +258,5 @@ pub record Later (w w' : World) : Type 0 where
   pub began : (k : ℕ) → k < length w.hall.log.list → (operation_of w'.hall k).began ≡ (operation_of w.hall k).began
   -- a stamp once taken stays, and so does all of an operation that has ended; what ends now ends at a new moment
   pub stamp : (k : ℕ) → StampedWrite w.hall k → (operation_of w'.hall k).pair ≡ (operation_of w.hall k).pair
-  pub ended : (k : ℕ) → 0 < (operation_of w.hall k).ended → operation_of w'.hall k ≡ operation_of w.hall k
-  pub ending : (k : ℕ) → (operation_of w.hall k).ended ≡ 0 → 0 < (operation_of w'.hall k).ended → w.hall.moment < (operation_of w'.hall k).ended
+  pub ended : (k : ℕ) → 0 < end_of (operation_of w.hall k) → operation_of w'.hall k ≡ operation_of w.hall k
+  pub ending : (k : ℕ) → end_of (operation_of w.hall k) ≡ 0 → 0 < end_of (operation_of w'.hall k) → w.hall.moment < end_of (operation_of w'.hall k)

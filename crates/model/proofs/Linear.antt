@@ -10,7 +10,7 @@ use Rattle.kinds.specs.declared.word.Word.{Word}
 use Rattle.orders.specs.Order.{◌∈◌, Operations, Precedes, last_written, Stamped, Order, Origin}
 use Rattle.orders.specs.Order.Origin.{the_opening as from_opening, a_write as from_write}
 use Rattle.orders.proofs.Theorem.{stamped_operations_have_an_order}
-use Rattle.model.specs.Halls.{Hall, World, Kind, operation_of}
+use Rattle.model.specs.Halls.{Hall, World, Kind, operation_of, end_of}
 use Rattle.model.specs.Order.{Operation, Ended, Finished, Writes, value_written, newer, held_after, InOrder, Linearizable}
 use Rattle.model.specs.Runs.{Lawful, Opened, Run, Unforged}
 use Rattle.model.proofs.Events.{EndedLog, BeginCall, by_read, by_write, begins_slip, slips}
@@ -24,7 +24,7 @@ use Rattle.model.proofs.Ways.{both, some_same, not_some}
 
 -- whether the operation stands in the order: it has ended, or it is a write that has taken its stamp
 abbrev pub standing : Hall → ℕ → Bool
-standing h k = ltb 0 (operation_of h k).ended || ((operation_of h k).writes && ltb 0 (operation_of h k).pair.stamp.count)
+standing h k = ltb 0 (end_of (operation_of h k)) || ((operation_of h k).writes && ltb 0 (operation_of h k).pair.stamp.count)
 
 -- the operations of a log, as the ordering theorem takes them
 abbrev pub operations : Hall → Operations
@@ -33,25 +33,25 @@ operations h = record {
   value = λ k. (operation_of h k).pair.word.0;
   stamp = λ k. stamp_number (operation_of h k).pair;
   began = λ k. (operation_of h k).began;
-  ended = λ k. (operation_of h k).ended;
+  ended = λ k. end_of (operation_of h k);
 }
 
 pub data Stands (h : Hall) (k : ℕ) : Type 0 where
-  as_ended : 0 < (operation_of h k).ended → Stands h k
+  as_ended : 0 < end_of (operation_of h k) → Stands h k
   as_write : StampedWrite h k → Stands h k
 
 stands : (h : Hall) (k : ℕ) → k < length h.log.list → standing h k ≡ true → Stands h k
-stands h k lt t = by_test (ltb 0 (operation_of h k).ended) refl t
+stands h k lt t = by_test (ltb 0 (end_of (operation_of h k))) refl t
   where
-    by_test : (b : Bool) → ltb 0 (operation_of h k).ended ≡ b → (b || ((operation_of h k).writes && ltb 0 (operation_of h k).pair.stamp.count)) ≡ true → Stands h k
+    by_test : (b : Bool) → ltb 0 (end_of (operation_of h k)) ≡ b → (b || ((operation_of h k).writes && ltb 0 (operation_of h k).pair.stamp.count)) ≡ true → Stands h k
     by_test true is u = as_ended (ltb-true 0 _ is)
     by_test false is u = let p = both (operation_of h k).writes (ltb 0 (operation_of h k).pair.stamp.count) u in as_write (record { logged = lt; writes = p.first; stamped = ltb-true 0 _ p.second })
 
-ended_stands : (h : Hall) (k : ℕ) → 0 < (operation_of h k).ended → standing h k ≡ true
-ended_stands h k o = rw (lt-ltb 0 (operation_of h k).ended o)
+ended_stands : (h : Hall) (k : ℕ) → 0 < end_of (operation_of h k) → standing h k ≡ true
+ended_stands h k o = rw (lt-ltb 0 (end_of (operation_of h k)) o)
 
 write_stands : (h : Hall) (k : ℕ) → StampedWrite h k → standing h k ≡ true
-write_stands h k s = rw (s.writes, lt-ltb 0 (operation_of h k).pair.stamp.count s.stamped) (or_true (ltb 0 (operation_of h k).ended))
+write_stands h k s = rw (s.writes, lt-ltb 0 (operation_of h k).pair.stamp.count s.stamped) (or_true (ltb 0 (end_of (operation_of h k))))
   where
     or_true : (b : Bool) → (b || true) ≡ true
     or_true true = refl
@@ -89,10 +89,10 @@ log_stamped kind sealed w holds = record {
         by_how (as_ended o) = record { logged = in_log k m; writes = y; stamped = (holds.log.each k (in_log k m)).stamped y o }
         by_how (as_write s) = s
 
-    read_ended : (k : ℕ) → k ∈ below (standing w.hall) (length w.hall.log.list) → (operation_of w.hall k).writes ≡ false → 0 < (operation_of w.hall k).ended
+    read_ended : (k : ℕ) → k ∈ below (standing w.hall) (length w.hall.log.list) → (operation_of w.hall k).writes ≡ false → 0 < end_of (operation_of w.hall k)
     read_ended k m reads = by_how (how k m)
       where
-        by_how : Stands w.hall k → 0 < (operation_of w.hall k).ended
+        by_how : Stands w.hall k → 0 < end_of (operation_of w.hall k)
         by_how (as_ended o) = o
         by_how (as_write s) = absurd (clash (sym reads ∙ s.writes))
 
@@ -179,8 +179,8 @@ module _ {V : Type 0} (kind : Kind V) (v : V) (start : World) (lawful : Lawful k
   record LastEnd (o p : ℕ) (u : V) (k : ℕ) : Type 0 where
     begun : where_begun k ≡ o
     logged : k < length last.log.list
-    over : 0 < (operation_of last k).ended
-    moment : (operation_of last k).ended ≡ (run.world (p + 1)).hall.moment
+    over : 0 < end_of (operation_of last k)
+    moment : end_of (operation_of last k) ≡ (run.world (p + 1)).hall.moment
     value : kind.value (operation_of last k).pair.word ≡ Some u
 
   last_end : (o p : ℕ) (u : V) (e : Ended run o p u) → LastEnd o p u e.place
@@ -196,14 +196,14 @@ module _ {V : Type 0} (kind : Kind V) (v : V) (start : World) (lawful : Lawful k
       at : EndAt kind v start lawful opened run unforged p e.client e.place u
       at = ended_at kind v start lawful opened run unforged o p u e
 
-      then_over : 0 < (operation_of (run.world (p + 1)).hall e.place).ended
+      then_over : 0 < end_of (operation_of (run.world (p + 1)).hall e.place)
       then_over = omega (arith, at.log.now)
 
       g : Grows (run.world (p + 1)).hall (run.world run.calls).hall
       g = grows kind v start lawful opened run unforged (p + 1) run.calls (omega (arith, e.within)) (omega arith)
 
   -- what is ended in the last log has ended in the run
-  finished : (k : ℕ) → k < length last.log.list → 0 < (operation_of last k).ended → Finished run (where_begun k)
+  finished : (k : ℕ) → k < length last.log.list → 0 < end_of (operation_of last k) → Finished run (where_begun k)
   unfolding last
   finished k lt o =
       let s = known_start k lt in
@@ -325,8 +325,8 @@ module _ {V : Type 0} (kind : Kind V) (v : V) (start : World) (lawful : Lawful k
           (below_all (standing last) (length last.log.list) e.place t.logged (ended_stands last e.place t.over))
           (t.over, earlier s.at e.place e.within t.moment s.at_is k.told_so.began k.start_of.within))))
         where
-          earlier : (a k : ℕ) → p < run.calls → (operation_of last k).ended ≡ (run.world (p + 1)).hall.moment → where_begun a ≡ j
-              → (operation_of last a).began ≡ (run.world (where_begun a)).hall.moment + 1 → where_begun a < run.calls → (operation_of last k).ended < (operation_of last a).began
+          earlier : (a k : ℕ) → p < run.calls → end_of (operation_of last k) ≡ (run.world (p + 1)).hall.moment → where_begun a ≡ j
+              → (operation_of last a).began ≡ (run.world (where_begun a)).hall.moment + 1 → where_begun a < run.calls → end_of (operation_of last k) < (operation_of last a).began
           earlier a k within ended at began start_within =
               let g : Grows (run.world (p + 1)).hall (run.world (where_begun a)).hall = grows kind v start lawful opened run unforged (p + 1) (where_begun a) (omega arith) (omega arith) in
               omega (arith, ended, began, g.moment)

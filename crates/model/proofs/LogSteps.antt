@@ -8,14 +8,14 @@ use Rattle.wire.specs.declared.text.Text.{Text}
 use Rattle.halls.specs.declared.operation.Operation.{Operation}
 use Rattle.halls.specs.declared.seat.Seat.{Seat}
 use Rattle.model.specs.Tables.{Table}
-use Rattle.model.specs.Halls.{World, no_operation, operation_of}
+use Rattle.model.specs.Halls.{World, no_operation, operation_of, end_of}
 use Rattle.model.proofs.Frames.{later_over}
 use Rattle.model.proofs.Invariants.{stamp_number, StampedWrite, OverBefore, OperationRule, LogRule, Later, ends}
 use Rattle.model.proofs.Moved.{moved, Logging}
 use Rattle.model.proofs.Posts.{operation_later}
 
 -- how many have ended, with another operation at place k
-pub ends_set : (ops : List Operation) (k : ℕ) (op : Operation) → k < length ops → ends (set ops k op) + min 1 (get_or ops k no_operation).ended ≡ ends ops + min 1 op.ended
+pub ends_set : (ops : List Operation) (k : ℕ) (op : Operation) → k < length ops → ends (set ops k op) + min 1 (end_of (get_or ops k no_operation)) ≡ ends ops + min 1 (end_of op)
 unfolding ends
 ends_set [] k op lt = absurd (omega arith)
 ends_set (x ∷ ops) zero op lt = omega arith
@@ -28,10 +28,10 @@ pub record OpStep (w : World) (c k : ℕ) (op : Operation) (moment : ℕ) : Type
   pub client : op.client ≡ (operation_of w.hall k).client
   pub writes : op.writes ≡ (operation_of w.hall k).writes
   pub began : op.began ≡ (operation_of w.hall k).began
-  pub unended : (operation_of w.hall k).ended ≡ 0
+  pub unended : end_of (operation_of w.hall k) ≡ 0
   pub stamp : StampedWrite w.hall k → op.pair ≡ (operation_of w.hall k).pair
-  pub moments : moment ≡ w.hall.moment + min 1 op.ended
-  pub ending : 0 < op.ended → w.hall.moment < op.ended
+  pub moments : moment ≡ w.hall.moment + min 1 (end_of op)
+  pub ending : 0 < end_of op → w.hall.moment < end_of op
 
 module _ {w : World} {c k : ℕ} {op : Operation} {moment : ℕ} (s : OpStep w c k op moment) where
   pub set_here : get_or (set w.hall.log.list k op) k no_operation ≡ op
@@ -61,21 +61,21 @@ module _ {w : World} {c k : ℕ} {op : Operation} {moment : ℕ} (s : OpStep w c
     ending = λ j z o. ⊎_elim (λ e. at_k j e o) (λ ne. absurd (elsewhere j ne z o)) (cases_eq j k);
   }
     where
-      over : (j : ℕ) → 0 < (operation_of w.hall j).ended → j ≡ k → ⊥
-      over j o e = omega (arith, s.unended, ap (λ i. (operation_of w.hall i).ended) e)
+      over : (j : ℕ) → 0 < end_of (operation_of w.hall j) → j ≡ k → ⊥
+      over j o e = omega (arith, s.unended, ap (λ i. end_of (operation_of w.hall i)) e)
 
-      at_k : (j : ℕ) → j ≡ k → 0 < (get_or (set w.hall.log.list k op) j no_operation).ended → w.hall.moment < (get_or (set w.hall.log.list k op) j no_operation).ended
+      at_k : (j : ℕ) → j ≡ k → 0 < end_of (get_or (set w.hall.log.list k op) j no_operation) → w.hall.moment < end_of (get_or (set w.hall.log.list k op) j no_operation)
       at_k j e o =
-          let is : (get_or (set w.hall.log.list k op) j no_operation).ended ≡ op.ended = ap (λ i. (get_or (set w.hall.log.list k op) i no_operation).ended) e ∙ ap (λ x. x.ended) set_here in
+          let is : end_of (get_or (set w.hall.log.list k op) j no_operation) ≡ end_of op = ap (λ i. end_of (get_or (set w.hall.log.list k op) i no_operation)) e ∙ ap (λ x. end_of x) set_here in
           omega (arith, s.ending (omega (arith, is, o)), is)
 
-      elsewhere : (j : ℕ) → (j ≡ k → ⊥) → (operation_of w.hall j).ended ≡ 0 → 0 < (get_or (set w.hall.log.list k op) j no_operation).ended → ⊥
-      elsewhere j ne z o = omega (arith, o, z, ap (λ (x : Operation). x.ended) (set_there j ne))
+      elsewhere : (j : ℕ) → (j ≡ k → ⊥) → end_of (operation_of w.hall j) ≡ 0 → 0 < end_of (get_or (set w.hall.log.list k op) j no_operation) → ⊥
+      elsewhere j ne z o = omega (arith, o, z, ap (λ (x : Operation). end_of x) (set_there j ne))
 
   -- of the new operation: its stamp is no other write's, not below what had ended before, and above it for a write
   pub record StampsWell : Type 0 where
     pub own_stamp : (j : ℕ) → (j ≡ k → ⊥) → StampedWrite w.hall j → op.writes ≡ true → 0 < op.pair.stamp.count → stamp_number (operation_of w.hall j).pair ≡ stamp_number op.pair → ⊥
-    pub falls_not : (j : ℕ) → OverBefore w.hall j k → op.writes ≡ false → 0 < op.ended → stamp_number (operation_of w.hall j).pair ≤ stamp_number op.pair
+    pub falls_not : (j : ℕ) → OverBefore w.hall j k → op.writes ≡ false → 0 < end_of op → stamp_number (operation_of w.hall j).pair ≤ stamp_number op.pair
     pub rises : (j : ℕ) → OverBefore w.hall j k → op.writes ≡ true → 0 < op.pair.stamp.count → stamp_number (operation_of w.hall j).pair < stamp_number op.pair
 
   module _ (seat : Seat) (table : Table Entry) (seals : ℕ → ℕ) (genuine : Text → Seal → Bool) (l : Later w (moved w c seat (set w.hall.log.list k op) moment table seals genuine)) where
@@ -94,7 +94,7 @@ module _ {w : World} {c k : ℕ} {op : Operation} {moment : ℕ} (s : OpStep w c
       falls_not = λ i j o lj y z. ⊎_elim
           (λ e. at_k_falls i j e o y z)
           (λ ne. let old = over i j (back j lj) o in
-          omega (arith, number_over i old, number j ne, r.falls_not i j old (back j lj) (sym (ap (λ x. x.writes) (set_there j ne)) ∙ y) (subst (λ (x : Operation). 0 < x.ended) (set_there j ne) z)))
+          omega (arith, number_over i old, number j ne, r.falls_not i j old (back j lj) (sym (ap (λ x. x.writes) (set_there j ne)) ∙ y) (subst (λ (x : Operation). 0 < end_of x) (set_there j ne) z)))
           (cases_eq j k);
       rises = λ i j o sj. ⊎_elim
           (λ e. at_k_rises i j e o sj)
@@ -141,7 +141,7 @@ module _ {w : World} {c k : ℕ} {op : Operation} {moment : ℕ} (s : OpStep w c
         over_k i j e o = over i k s.logged (subst (OverBefore (moved w c seat (set w.hall.log.list k op) moment table seals genuine).hall i) e o)
 
         at_k_falls : (i j : ℕ) → j ≡ k → OverBefore (moved w c seat (set w.hall.log.list k op) moment table seals genuine).hall i j
-            → (get_or (set w.hall.log.list k op) j no_operation).writes ≡ false → 0 < (get_or (set w.hall.log.list k op) j no_operation).ended
+            → (get_or (set w.hall.log.list k op) j no_operation).writes ≡ false → 0 < end_of (get_or (set w.hall.log.list k op) j no_operation)
             → stamp_number (get_or (set w.hall.log.list k op) i no_operation).pair ≤ stamp_number (get_or (set w.hall.log.list k op) j no_operation).pair
         at_k_falls i j e o y z =
             let old = over_k i j e o in
@@ -151,7 +151,7 @@ module _ {w : World} {c k : ℕ} {op : Operation} {moment : ℕ} (s : OpStep w c
               number_at j e,
               well.falls_not i old
                   (sym (ap (λ x. x.writes) set_here) ∙ subst (λ n. (get_or (set w.hall.log.list k op) n no_operation).writes ≡ false) e y)
-                  (subst (λ (x : Operation). 0 < x.ended) set_here (subst (λ n. 0 < (get_or (set w.hall.log.list k op) n no_operation).ended) e z)),
+                  (subst (λ (x : Operation). 0 < end_of x) set_here (subst (λ n. 0 < end_of (get_or (set w.hall.log.list k op) n no_operation)) e z)),
             )
 
         at_k_rises : (i j : ℕ) → j ≡ k → OverBefore (moved w c seat (set w.hall.log.list k op) moment table seals genuine).hall i j

@@ -14,7 +14,7 @@ use Rattle.histories.specs.Histories.{Good, Justified}
 use Rattle.halls.specs.declared.operation.Operation.{Operation}
 use Rattle.halls.specs.declared.seat.Seat.{Seat}
 use Rattle.model.specs.Tables.{Table, is_full, added, places}
-use Rattle.model.specs.Halls.{Hall, World, no_entry, no_operation, no_seat, has_its_tables, seat_of, operation_of}
+use Rattle.model.specs.Halls.{Hall, World, no_entry, no_operation, no_seat, has_its_tables, seat_of, operation_of, end_of}
 use Rattle.model.specs.Delivering.{entry_of}
 use Rattle.model.proofs.Frames.{later_answer, later_card, later_seat, QuietReplica, QuietClient}
 use Rattle.model.proofs.Invariants.{views, history, StampedWrite, Sized, KnownText, AnswerRule, SeatRule, LogRule, Holds, Later}
@@ -127,8 +127,8 @@ pub record Logging (w : World) (c : ℕ) (ops : List Operation) (moment : ℕ) :
   pub writes : (j : ℕ) → (get_or ops j no_operation).writes ≡ (operation_of w.hall j).writes
   pub began : (j : ℕ) → (get_or ops j no_operation).began ≡ (operation_of w.hall j).began
   pub stamp : (j : ℕ) → StampedWrite w.hall j → (get_or ops j no_operation).pair ≡ (operation_of w.hall j).pair
-  pub ended : (j : ℕ) → 0 < (operation_of w.hall j).ended → get_or ops j no_operation ≡ operation_of w.hall j
-  pub ending : (j : ℕ) → (operation_of w.hall j).ended ≡ 0 → 0 < (get_or ops j no_operation).ended → w.hall.moment < (get_or ops j no_operation).ended
+  pub ended : (j : ℕ) → 0 < end_of (operation_of w.hall j) → get_or ops j no_operation ≡ operation_of w.hall j
+  pub ending : (j : ℕ) → end_of (operation_of w.hall j) ≡ 0 → 0 < end_of (get_or ops j no_operation) → w.hall.moment < end_of (get_or ops j no_operation)
 
 -- nothing is logged
 pub logging_none : (w : World) (c : ℕ) → Logging w c w.hall.log.list w.hall.moment

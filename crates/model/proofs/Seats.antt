@@ -16,7 +16,7 @@ use Rattle.histories.proofs.Places.{posted_split}
 use Rattle.halls.specs.declared.operation.Operation.{Operation}
 use Rattle.halls.specs.declared.seat.Seat.{Seat}
 use Rattle.model.specs.Tables.{Table}
-use Rattle.model.specs.Halls.{World, no_operation, operation_of}
+use Rattle.model.specs.Halls.{World, no_operation, operation_of, end_of}
 use Rattle.model.proofs.Frames.{later_configuration, later_text, later_seat, QuietClient}
 use Rattle.model.proofs.Invariants.{history, stamp_number, KnownConfiguration, StampedWrite, KnownPair, OverBefore, ReadingRule, SendingRule, OpenRule, OwnRule, SeatRule, Holds}
 use Rattle.model.proofs.Moved.{moved, Posting, Logging, logging_none, later_moved, moved_keeps}
@@ -126,7 +126,7 @@ module _ {kind : ℕ} {w : World} {c : ℕ} {seat : Seat} (b : SeatBase kind w c
     over_pair = unlike WritingBack Over refl is;
   }
 
-  pub seat_over : seat.line.stage ≡ Over → 0 < (operation_of w.hall seat.operation).ended → (operation_of w.hall seat.operation).pair ≡ seat.line.highest → SeatRule kind w c seat
+  pub seat_over : seat.line.stage ≡ Over → 0 < end_of (operation_of w.hall seat.operation) → (operation_of w.hall seat.operation).pair ≡ seat.line.highest → SeatRule kind w c seat
   seat_over is ended pair = record {
     configuration = b.configuration;
     reads = b.reads;

@@ -9,7 +9,7 @@ use Rattle.wire.specs.declared.pair.Pair.{Pair}
 use Rattle.clients.specs.declared.line.Stage.{Stage}
 use Rattle.clients.specs.declared.line.Stage.TheVariants.{Idle, Reading, Writing, WritingBack, Over}
 use Rattle.clients.specs.Lines.{is_idle}
-use Rattle.model.specs.Halls.{Hall, World, Kind, seat_of, operation_of, has_its_tables}
+use Rattle.model.specs.Halls.{Hall, World, Kind, seat_of, operation_of, has_its_tables, end_of}
 use Rattle.model.specs.Answers.{Answer, slip, Outcome}
 use Rattle.model.specs.Beginning.{new_operation, word_or_none}
 use Rattle.model.specs.Delivering.{is_over}
@@ -196,30 +196,30 @@ module _ {V : Type 0} (kind : Kind V) (v : V) (start : World) (lawful : Lawful k
     pub here_ends : EndsHere position k
 
   -- with the call at i the operation at place k ends, or it had ended before
-  pub ended_now : (i k : ℕ) → i < run.calls → 0 < (operation_of (hall_at (i + 1)) k).ended → (0 < (operation_of (hall_at i) k).ended) ⊎ EndsHere i k
+  pub ended_now : (i k : ℕ) → i < run.calls → 0 < end_of (operation_of (hall_at (i + 1)) k) → (0 < end_of (operation_of (hall_at i) k)) ⊎ EndsHere i k
   ended_now i k lt o = by_event (event i lt)
     where
-      by_event : Event kind (hall_at i) (hall_at (i + 1)) (run.call i) (run.answer i) → (0 < (operation_of (hall_at i) k).ended) ⊎ EndsHere i k
+      by_event : Event kind (hall_at i) (hall_at (i + 1)) (run.call i) (run.answer i) → (0 < end_of (operation_of (hall_at i) k)) ⊎ EndsHere i k
       by_event (nothing none s) = inl (omega (arith, o, s.ended k))
       by_event (begins d word call answer b) = by_place (dec_lt k (length (hall_at i).log.list))
         where
-          by_place : Dec (k < length (hall_at i).log.list) → (0 < (operation_of (hall_at i) k).ended) ⊎ EndsHere i k
-          by_place (yes old) = inl (omega (arith, o, ap (λ z. z.ended) (b.old k old)))
-          by_place (no new) = absurd (omega (arith, o, ap (λ z. z.ended) (subst (λ m. operation_of (hall_at (i + 1)) m ≡ new_operation d word ((hall_at i).moment + 1)) here b.new)))
+          by_place : Dec (k < length (hall_at i).log.list) → (0 < end_of (operation_of (hall_at i) k)) ⊎ EndsHere i k
+          by_place (yes old) = inl (omega (arith, o, ap (λ z. end_of z) (b.old k old)))
+          by_place (no new) = absurd (omega (arith, o, ap (λ z. end_of z) (subst (λ m. operation_of (hall_at (i + 1)) m ≡ new_operation d word ((hall_at i).moment + 1)) here b.new)))
             where
               here : length (hall_at i).log.list ≡ k
               here = let l = ended_logged (hall_at (i + 1)) k o in omega (arith, new, b.longer)
       by_event (ends d j low high none e) = by_place (ℕ_discrete k j)
         where
-          by_place : Dec (k ≡ j) → (0 < (operation_of (hall_at i) k).ended) ⊎ EndsHere i k
+          by_place : Dec (k ≡ j) → (0 < end_of (operation_of (hall_at i) k)) ⊎ EndsHere i k
           by_place (yes same) = inr (record { client = d; low = low; high = high; log = subst (λ m. EndedLog (hall_at i) (hall_at (i + 1)) d m) (sym same) e })
-          by_place (no other) = inl (omega (arith, o, ap (λ z. z.ended) (e.others k other)))
+          by_place (no other) = inl (omega (arith, o, ap (λ z. end_of z) (e.others k other)))
 
-  pub found_end : (i : ℕ) → i ≤ run.calls → (k : ℕ) → 0 < (operation_of (hall_at i) k).ended → FoundEnd i k
+  pub found_end : (i : ℕ) → i ≤ run.calls → (k : ℕ) → 0 < end_of (operation_of (hall_at i) k) → FoundEnd i k
   found_end zero le k o = absurd (omega (arith, ended_logged (hall_at 0) k o, ap (λ w. length w.hall.log.list) run.opens, ap length opened.log))
-  found_end (suc i) le k o = by_case (λ before. found_end i (omega arith) k before) (ended_now i k (omega arith) (subst (λ m. 0 < (operation_of (hall_at m) k).ended) (sym (add-one i)) o))
+  found_end (suc i) le k o = by_case (λ before. found_end i (omega arith) k before) (ended_now i k (omega arith) (subst (λ m. 0 < end_of (operation_of (hall_at m) k)) (sym (add-one i)) o))
     where
-      by_case : (0 < (operation_of (hall_at i) k).ended → FoundEnd i k) → (0 < (operation_of (hall_at i) k).ended) ⊎ EndsHere i k → FoundEnd (suc i) k
+      by_case : (0 < end_of (operation_of (hall_at i) k) → FoundEnd i k) → (0 < end_of (operation_of (hall_at i) k)) ⊎ EndsHere i k → FoundEnd (suc i) k
       by_case before (inl old) = let f = before old in record { position = f.position; earlier = omega (arith, f.earlier); here_ends = f.here_ends }
       by_case before (inr f) = record { position = i; earlier = omega arith; here_ends = f }
 
@@ -266,7 +266,7 @@ module _ {V : Type 0} (kind : Kind V) (v : V) (start : World) (lawful : Lawful k
   pub record Collected (i c k : ℕ) (u : V) : Type 0 where
     pub low : 1 ≤ c
     pub high : c ≤ (hall_at i).rules.clients
-    pub over : 0 < (operation_of (hall_at i) k).ended
+    pub over : 0 < end_of (operation_of (hall_at i) k)
     pub value : kind.value (operation_of (hall_at i) k).pair.word ≡ Some u
 
   pub collected : (i c k : ℕ) (u : V) → i ≤ run.calls → collects kind (run.world i) c k ≡ Some u → Collected i c k u
@@ -301,12 +301,12 @@ module _ {V : Type 0} (kind : Kind V) (v : V) (start : World) (lawful : Lawful k
           record {
             low = low;
             high = high;
-            over = subst (λ m. 0 < (operation_of (hall_at i) m).ended) k_is (mine.over_ended stage);
+            over = subst (λ m. 0 < end_of (operation_of (hall_at i) m)) k_is (mine.over_ended stage);
             value = ap (λ m. kind.value (operation_of (hall_at i) m).pair.word) (sym k_is) ∙ ap (λ p. kind.value p.word) (mine.over_pair stage) ∙ is ∙ z;
           }
 
   -- collect answers nothing as long as the operation has not ended
-  pub collects_none : (i c k : ℕ) → i ≤ run.calls → (operation_of (hall_at i) k).ended ≡ 0 → collects kind (run.world i) c k ≡ None
+  pub collects_none : (i c k : ℕ) → i ≤ run.calls → end_of (operation_of (hall_at i) k) ≡ 0 → collects kind (run.world i) c k ≡ None
   collects_none i c k le unended = by_answer (collects kind (run.world i) c k) refl
     where
       by_answer : (o : Option V) → collects kind (run.world i) c k ≡ o → o ≡ None
@@ -329,13 +329,13 @@ module _ {V : Type 0} (kind : Kind V) (v : V) (start : World) (lawful : Lawful k
     operation = op;
     within = e.within;
     answers = collects_over (p + 1) c k (omega (arith, e.within)) e.low (subst (λ r. c ≤ r.clients) (sym e.log.rules_same) e.high) e.log.over e.log.seat ∙ e.value;
-    first = λ q lt. collects_none (q + 1) c k (omega (arith, e.within)) (unended q lt (operation_of (hall_at (q + 1)) k).ended refl);
+    first = λ q lt. collects_none (q + 1) c k (omega (arith, e.within)) (unended q lt (end_of (operation_of (hall_at (q + 1)) k)) refl);
   }
     where
-      unended : (q : ℕ) → q < p → (n : ℕ) → (operation_of (hall_at (q + 1)) k).ended ≡ n → (operation_of (hall_at (q + 1)) k).ended ≡ 0
+      unended : (q : ℕ) → q < p → (n : ℕ) → end_of (operation_of (hall_at (q + 1)) k) ≡ n → end_of (operation_of (hall_at (q + 1)) k) ≡ 0
       unended q lt zero is = is
       unended q lt (suc n) is =
-          let some : 0 < (operation_of (hall_at (q + 1)) k).ended = omega arith in
+          let some : 0 < end_of (operation_of (hall_at (q + 1)) k) = omega arith in
           absurd (omega (arith, some, (grows (q + 1) p (omega arith) (omega (arith, e.within))).ended k some, e.log.unended))
 
   -- the client of an operation that ends is the one that began it
@@ -353,7 +353,7 @@ module _ {V : Type 0} (kind : Kind V) (v : V) (start : World) (lawful : Lawful k
           by_order (no after) = absurd (omega (arith, f.log.logged, (grows i o (omega arith) (omega (arith, s.start_of.within))).longer, s.start_of.place))
 
   -- what has ended is a value's
-  pub ended_valued : (i k : ℕ) → i ≤ run.calls → 0 < (operation_of (hall_at i) k).ended → Valued (operation_of (hall_at i) k).pair.word
+  pub ended_valued : (i k : ℕ) → i ≤ run.calls → 0 < end_of (operation_of (hall_at i) k) → Valued (operation_of (hall_at i) k).pair.word
   ended_valued i k le o = known_valued i le _ (((holds i le).log.each k (ended_logged (hall_at i) k o)).known o)
 
   -- and the other way round
@@ -388,7 +388,7 @@ module _ {V : Type 0} (kind : Kind V) (v : V) (start : World) (lawful : Lawful k
           nothing_there : {x : V} → ◌≡◌ {A = Option V} None (Some x) → ⊥
           nothing_there q = not_some q
 
-      by_case : (0 < (operation_of (hall_at p) e.place).ended) ⊎ EndsHere p e.place → EndAt p e.client e.place u
+      by_case : (0 < end_of (operation_of (hall_at p) e.place)) ⊎ EndsHere p e.place → EndAt p e.client e.place u
       by_case (inl before) = absurd (too_early (found_end p (omega (arith, e.within)) e.place before))
       by_case (inr f) = record {
         within = e.within;

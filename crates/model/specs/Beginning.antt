@@ -26,7 +26,7 @@ new_operation client word moment = record {
   client = client;
   writes = is_some word;
   began = moment;
-  ended = 0;
+  ended = None;
   pair = record { stamp = record { count = 0; writer = 0 }; word = word_or_none word; seal = record { 0 = 0 } };
 }
 

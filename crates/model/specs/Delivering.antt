@@ -85,7 +85,7 @@ is_stamping Reading Over = false
 -- the line of the log after a step of its client: it gets its end with its pair, or a write gets its stamp and seal
 abbrev pub logged : Operation → Line → Line → ℕ → Operation
 logged op before after moment =
-    cond (has_ended before after) (record { client = op.client; writes = op.writes; began = op.began; ended = moment; pair = after.highest })
+    cond (has_ended before after) (record { client = op.client; writes = op.writes; began = op.began; ended = Some moment; pair = after.highest })
     (cond (is_stamping before.stage after.stage) (record { client = op.client; writes = op.writes; began = op.began; ended = op.ended; pair = after.highest })
     op)
 

@@ -1,5 +1,5 @@
 -- A hall as values: its rules and tables, and the meanings of its store and its sealer.
-use Rattle.std.specs.Prelude.{ℕ, ◌-◌, Bool, false, cond, ◌&&◌, List, length, Some, None, Option, ◌==◌, nat_le, nat_lt, slice_index_or, slice_set}
+use Rattle.std.specs.Prelude.{ℕ, ◌-◌, Bool, false, cond, ◌&&◌, List, length, Some, None, Option, ◌==◌, nat_le, nat_lt, unwrap_or, slice_index_or, slice_set}
 use Rattle.kinds.specs.declared.word.Word.{Word}
 use Rattle.wire.specs.declared.entry.Entry.{Entry}
 use Rattle.wire.specs.declared.pair.Configuration.{Configuration}
@@ -70,7 +70,7 @@ no_entry = record {
 }
 
 abbrev pub no_operation : Operation
-no_operation = record { client = 0; writes = false; began = 0; ended = 0; pair = no_pair }
+no_operation = record { client = 0; writes = false; began = 0; ended = None; pair = no_pair }
 
 abbrev pub no_configuration : Configuration
 no_configuration = record { epoch = 0; set = record { 0 = 0 }; seal = record { 0 = 0 } }
@@ -100,6 +100,10 @@ has_its_tables h =
 -- the seat of client c, the first for client 1
 abbrev pub seat_of : Hall → ℕ → Seat
 seat_of h c = slice_index_or h.seats (c - 1) no_seat
+
+-- the moment at which an operation ended, 0 while it has not
+abbrev pub end_of : Operation → ℕ
+end_of op = unwrap_or op.ended 0
 
 abbrev pub operation_of : Hall → ℕ → Operation
 operation_of h k = slice_index_or h.log.list k no_operation

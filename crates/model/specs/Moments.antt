@@ -1,6 +1,6 @@
 -- The moments in the log keep the order of begins and ends.
 use Rattle.std.specs.Prelude.{◌≡◌, ℕ, ◌<◌}
-use Rattle.model.specs.Halls.{World, Kind, operation_of}
+use Rattle.model.specs.Halls.{World, Kind, operation_of, end_of}
 use Rattle.model.specs.Runs.{Run}
 use Rattle.model.specs.Order.{Operation, Ended}
 
@@ -8,7 +8,7 @@ module _ {V : Type 0} {kind : Kind V} {start : World} (run : Run kind start) whe
   -- at this position an operation began or ended, and this is the moment that the log has of it at the end of the run
   pub data Event (p moment : ℕ) : Type 0 where
     begins : {c k : ℕ} → Operation run p c k → (operation_of (run.world run.calls).hall k).began ≡ moment → Event p moment
-    ends : {o : ℕ} {v : V} (e : Ended run o p v) → (operation_of (run.world run.calls).hall e.place).ended ≡ moment → Event p moment
+    ends : {o : ℕ} {v : V} (e : Ended run o p v) → end_of (operation_of (run.world run.calls).hall e.place) ≡ moment → Event p moment
 
   abbrev pub MomentsInOrder : Type 0
   MomentsInOrder = (p q m n : ℕ) → Event p m → Event q n → p < q → m < n

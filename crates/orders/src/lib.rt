@@ -4,9 +4,7 @@
 
 ghost use Rattle.orders.specs.Order.{StampedOperationsHaveAnOrder};
 
-// Carries the theorem, which is about every history of operations; the number that it returns says nothing.
-pub fn stamped_operations_have_an_order() -> usize
+// Of every history of operations with such timestamps.
+pub fn stamped_operations_have_an_order()
     ensures { StampedOperationsHaveAnOrder }
-{
-    0
-}
+{}
