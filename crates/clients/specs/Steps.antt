@@ -8,7 +8,7 @@ use Rattle.wire.specs.Texts.{pair_text}
 use Rattle.wire.specs.Parties.{Client}
 use Rattle.sealers.specs.declared.fault.SealerFault.{SealerFault}
 use Rattle.sealers.specs.declared.fault.SealerFault.TheVariants.{NoSeal}
-use Rattle.sealers.specs.Sealing.{Sealed, sealed, GenuineAfter}
+use Rattle.sealers.specs.Sealing.{Desk, Sealed, sealed, GenuineAfter}
 use Rattle.rules.specs.declared.objection.Objection.TheVariants.{TooHigh}
 use Rattle.rules.specs.declared.rules.Rules.{Rules}
 use Rattle.rules.specs.Genuine.{genuine_entry}
@@ -37,13 +37,6 @@ begun client line word seals =
     (cond (not (nat_lt line.round 4294967295)) (record { answer = Err (Objects client TooHigh); line = line })
     (cond (is_some word && seals client.number == 0) (record { answer = Err (Sealer (NoSeal client.number)); line = line })
     (record { answer = Ok (read_of client (reading_next line word)); line = reading_next line word })))
-
--- the meaning of a sealer: which seals are genuine for a text, the seals that each party has left,
--- and the seal that a text would get
-pub record Desk : Type 0 where
-  pub genuine : Text → Seal → Bool
-  pub seals : ℕ → ℕ
-  pub given : Text → Seal
 
 -- what a step answers, the line that it leaves, and the seals that each party then has left
 pub record Stepped : Type 0 where

@@ -17,7 +17,7 @@ pub fn begin<L: Sealer>(
     word: Option<Word>,
     sealer: &L,
 ) -> Result<Entry, ClientFault>
-    ensures { record { answer = result; line = line.new } ≡ begun client line.old word (L.Sealer.seals sealer.now) }
+    ensures { record { answer = result; line = line.new } ≡ begun client line.old word (L.Sealer.desk sealer.now).seals }
 {
     if !line.stage.is_idle() {
         return Err(ClientFault::Busy(client));
@@ -40,8 +40,8 @@ pub fn client_step<K: Kind, L: Sealer>(
     entry: &Entry,
     sealer: &mut L,
 ) -> Result<Option<Entry>, ClientFault>
-    ensures change { record { answer = result; line = line.new; seals = L.Sealer.seals sealer.new } ≡ client_stepped rules.now K.Kind.number (record { genuine = L.Sealer.genuine sealer.old; seals = L.Sealer.seals sealer.old; given = L.Sealer.given sealer.old }) client line.old entry.now }
-    ensures grows { GenuineStepped rules.now K.Kind.number (record { genuine = L.Sealer.genuine sealer.old; seals = L.Sealer.seals sealer.old; given = L.Sealer.given sealer.old }) client line.old entry.now (L.Sealer.genuine sealer.new) }
+    ensures change { record { answer = result; line = line.new; seals = (L.Sealer.desk sealer.new).seals } ≡ client_stepped rules.now K.Kind.number (L.Sealer.desk sealer.old) client line.old entry.now }
+    ensures grows { GenuineStepped rules.now K.Kind.number (L.Sealer.desk sealer.old) client line.old entry.now (L.Sealer.desk sealer.new).genuine }
 {
     let genuine = rules.is_genuine::<K, L>(entry, sealer);
     match decide(rules, client, line, entry, genuine) {

@@ -18,8 +18,8 @@ use Rattle.clients.specs.Steps.{acted, signing}
 use Rattle.clients.specs.Turns.{Verdict, decided}
 use Rattle.halls.specs.declared.operation.Operation.{Operation}
 use Rattle.halls.specs.declared.seat.Seat.{Seat}
-use Rattle.model.specs.Halls.{World, seat_of, operation_of}
-use Rattle.model.specs.Delivering.{client_step_of, desk_of, is_over, is_stamping, has_ended}
+use Rattle.model.specs.Halls.{World, seat_of, operation_of, desk_of}
+use Rattle.model.specs.Delivering.{client_step_of, is_over, is_stamping, has_ended}
 use Rattle.model.proofs.Invariants.{SeatRule}
 use Rattle.model.proofs.ClientMoves.{ClientMove, counts_pair, ends_read, writes_back, takes_stamp, counts_ack, ends_write, goes_on, reads_again, writes_again, replies, client_view}
 use Rattle.model.proofs.Ways.{way_in, not_ok, ok_same}

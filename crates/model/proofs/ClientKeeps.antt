@@ -24,10 +24,10 @@ use Rattle.clients.specs.Steps.{Stepped, acted, signing}
 use Rattle.clients.specs.Turns.{Verdict, decided, is_quorum, read_of, write_of}
 use Rattle.halls.specs.declared.operation.Operation.{Operation}
 use Rattle.model.specs.Tables.{Table, is_full, added}
-use Rattle.model.specs.Halls.{World, no_operation, seat_of, operation_of}
+use Rattle.model.specs.Halls.{World, no_operation, seat_of, operation_of, desk_of}
 use Rattle.model.specs.Answers.{has_moment}
 use Rattle.model.specs.Calls.{text_if_stamped, GenuineThen}
-use Rattle.model.specs.Delivering.{entry_of, fits_client, client_moves, client_step_of, desk_of, has_ended, is_over, is_stamping, is_replica_number, logged, moment_after}
+use Rattle.model.specs.Delivering.{entry_of, fits_client, client_moves, client_step_of, has_ended, is_over, is_stamping, is_replica_number, logged, moment_after}
 use Rattle.model.proofs.ClientAsks.{keeps_reread, keeps_rewrite, keeps_back}
 use Rattle.model.proofs.ClientEnds.{ended_op, ends_keeps, ending_read, ending_write}
 use Rattle.model.proofs.ClientMoves.{ClientMove, Hears, Acked, heard, backward, forward, moved_on, reread, rewritten, client_view}

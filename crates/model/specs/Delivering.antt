@@ -13,7 +13,7 @@ use Rattle.clients.specs.declared.fault.ClientFault.{ClientFault}
 use Rattle.clients.specs.declared.line.Line.{Line}
 use Rattle.clients.specs.declared.line.Stage.{Stage}
 use Rattle.clients.specs.declared.line.Stage.TheVariants.{Idle, Reading, Writing, WritingBack, Over}
-use Rattle.clients.specs.Steps.{client_stepped, Desk, Stepped as ClientStepped}
+use Rattle.clients.specs.Steps.{client_stepped, Stepped as ClientStepped}
 use Rattle.replicas.specs.declared.fault.ReplicaFault.{ReplicaFault}
 use Rattle.replicas.specs.Steps.{replica_stepped, Shelf, Stepped as ReplicaStepped}
 use Rattle.halls.specs.declared.fault.HallFault.TheVariants.{NoSuch, Full, Unfit, Step}
@@ -21,7 +21,7 @@ use Rattle.halls.specs.declared.fault.StepFault.TheVariants.{Client as ByClient,
 use Rattle.halls.specs.declared.operation.Operation.{Operation}
 use Rattle.halls.specs.declared.seat.Seat.{Seat}
 use Rattle.model.specs.Tables.{Table, is_full, added}
-use Rattle.model.specs.Halls.{Hall, World, no_entry, seat_of, operation_of, party_in, with_post, with_seat, with_log, with_seals, with_store}
+use Rattle.model.specs.Halls.{Hall, World, no_entry, seat_of, operation_of, party_in, with_post, with_seat, with_log, with_seals, with_store, desk_of}
 use Rattle.model.specs.Answers.{Outcome, done, refuses, answers, with_its_tables, has_moment}
 
 abbrev pub is_client_number : ℕ → Bool
@@ -123,12 +123,9 @@ by_replica (Ok post) place saves number h = answers done (posting (with_store h 
 abbrev pub replica_done : {V : Type 0} → ReplicaStepped → ℕ → Hall → Outcome V
 replica_done s number h = by_replica s.answer s.place s.saves number h
 
--- the meanings of store and sealer, as the steps take them
+-- the meaning of the store, as the step of a replica takes it
 abbrev pub shelf_of : World → Shelf
 shelf_of w = record { place = w.hall.place; saves = w.hall.saves; next = w.next }
-
-abbrev pub desk_of : World → Desk
-desk_of w = record { genuine = w.genuine; seals = w.hall.seals; given = w.given }
 
 -- the client's step on an entry
 abbrev pub client_step_of : World → ℕ → Client → Entry → ClientStepped

@@ -10,6 +10,7 @@ use Rattle.wire.specs.declared.text.Text.{Text}
 use Rattle.wire.specs.Parties.{party_of}
 use Rattle.stores.specs.declared.card.Card.{Card}
 use Rattle.stores.specs.declared.store.Saves.{Saves}
+use Rattle.sealers.specs.Sealing.{Desk}
 use Rattle.rules.specs.declared.rules.Rules.{Rules}
 use Rattle.clients.specs.declared.line.Stage.TheVariants.{Idle}
 use Rattle.clients.specs.Lines.{no_pair}
@@ -48,6 +49,10 @@ pub record World : Type 0 where
   pub next : ℕ
   pub genuine : Text → Seal → Bool
   pub given : Text → Seal
+
+-- the meaning of the sealer, as the steps of the source and of clients take it
+abbrev pub desk_of : World → Desk
+desk_of w = record { genuine = w.genuine; seals = w.hall.seals; given = w.given }
 
 -- a record kind: its number, the word of a value, the value of a word
 pub record Kind (V : Type 0) : Type 0 where

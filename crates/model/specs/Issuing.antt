@@ -9,7 +9,7 @@ use Rattle.source.specs.declared.state.Source.{Source}
 use Rattle.source.specs.Issued.{Issued, issued}
 use Rattle.halls.specs.declared.fault.HallFault.TheVariants.{WrongSet, TooManyMarked, Full, Source as OfSource}
 use Rattle.model.specs.Tables.{is_full, added}
-use Rattle.model.specs.Halls.{Hall, World, with_post, with_seals, with_source}
+use Rattle.model.specs.Halls.{Hall, World, with_post, with_seals, with_source, desk_of}
 use Rattle.model.specs.Answers.{Outcome, done, refuses, answers, with_its_tables}
 
 -- exactly 3f+1 of the hall's replicas
@@ -35,4 +35,4 @@ issue_called w set =
     (cond (not (is_right_set w.hall.rules set.0)) (refuses WrongSet w.hall)
     (cond (has_too_many_marked w.hall.rules w.hall.marked set.0) (refuses (TooManyMarked 0) w.hall)
     (cond (is_full w.hall.roll || is_full w.hall.post) (refuses (Full 0) w.hall)
-    (issue_done (issued w.hall.source set w.hall.seals w.given) w.hall))))
+    (issue_done (issued w.hall.source set (desk_of w)) w.hall))))

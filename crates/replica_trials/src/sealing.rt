@@ -11,7 +11,7 @@ use wire::{Seal, Text};
 
 // For every sealer: what it seals it knows again.
 fn sealed_and_checked<S: Sealer>(sealer: &mut S, text: Text) -> Result<bool, SealerFault>
-    ensures { result ≡ checked (S.Sealer.seals sealer.old text.party) text.party }
+    ensures { result ≡ checked ((S.Sealer.desk sealer.old).seals text.party) text.party }
 {
     let seal = sealer.seal(text)?;
     Ok(sealer.check(text, seal))

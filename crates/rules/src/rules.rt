@@ -73,7 +73,7 @@ impl Rules {
 
     // Whether it is the opening pair, or a client of the hall has sealed it.
     pub fn is_genuine_pair<K: Kind, L: Sealer>(&self, pair: Pair, sealer: &L) -> bool
-        ensures { result ≡ genuine_pair self.now K.Kind.number (L.Sealer.genuine sealer.now) pair }
+        ensures { result ≡ genuine_pair self.now K.Kind.number (L.Sealer.desk sealer.now).genuine pair }
     {
         if self.is_opening_pair(pair) {
             return true;
@@ -90,7 +90,7 @@ impl Rules {
         configuration: Configuration,
         sealer: &L,
     ) -> bool
-        ensures { result ≡ genuine_configuration self.now (L.Sealer.genuine sealer.now) configuration }
+        ensures { result ≡ genuine_configuration self.now (L.Sealer.desk sealer.now).genuine configuration }
     {
         if self.is_first_configuration(configuration) {
             return true;
@@ -100,7 +100,7 @@ impl Rules {
 
     // Whether what the entry carries is genuine: a pair, a configuration, or nothing.
     pub fn is_genuine<K: Kind, L: Sealer>(&self, entry: &Entry, sealer: &L) -> bool
-        ensures { result ≡ genuine_entry self.now K.Kind.number (L.Sealer.genuine sealer.now) entry.now }
+        ensures { result ≡ genuine_entry self.now K.Kind.number (L.Sealer.desk sealer.now).genuine entry.now }
     {
         match EntryKind::try_from(entry.kind) {
             Ok(EntryKind::Write | EntryKind::Pair | EntryKind::Stock) => {

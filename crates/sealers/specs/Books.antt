@@ -5,6 +5,7 @@ use Rattle.wire.specs.declared.text.Text.{Text}
 use Rattle.wire.specs.Parties.{party_of}
 use Rattle.sealers.specs.declared.book.Book.{Book}
 use Rattle.sealers.specs.declared.fault.SealerFault.{SealerFault}
+use Rattle.sealers.specs.Sealing.{Desk}
 use Rattle.sealers.specs.declared.fault.SealerFault.TheVariants.{Limit}
 
 abbrev pub same_text : Text → Text → Bool
@@ -32,6 +33,9 @@ book_genuine b t s =
 
 abbrev pub book_given : Book → Text → Seal
 book_given b t = record { 0 = next_row b t.party }
+
+abbrev pub book_desk : Book → Desk
+book_desk b = record { genuine = book_genuine b; seals = book_seals b; given = book_given b }
 
 -- a share of 1 to 256 rows, and as many rows in all as 164 parties have
 abbrev pub book_fits : ℕ → ℕ → Bool

@@ -5,6 +5,15 @@ use Rattle.wire.specs.declared.text.Text.{Text}
 use Rattle.sealers.specs.declared.fault.SealerFault.{SealerFault}
 use Rattle.sealers.specs.declared.fault.SealerFault.TheVariants.{NoSeal}
 
+-- the meaning of a sealer
+pub record Desk : Type 0 where
+  -- which seals are genuine for a text, which names its party
+  pub genuine : Text → Seal → Bool
+  -- how many seals the party of each number has left
+  pub seals : ℕ → ℕ
+  -- the seal that a text would get: the rules leave it open, and say only that it is genuine once it is given
+  pub given : Text → Seal
+
 -- the answer, and the seals that each party then has left
 pub record Sealed : Type 0 where
   pub answer : Result Seal SealerFault

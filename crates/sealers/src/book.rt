@@ -1,6 +1,6 @@
 // The book: a sealer that writes down each text that it seals.
 ghost use Rattle.std.specs.Prelude.{◌≡◌, ◌<◌};
-ghost use Rattle.sealers.specs.Books.{next_row, end_row, book_genuine, book_seals, book_given, Opened};
+ghost use Rattle.sealers.specs.Books.{next_row, end_row, book_desk, Opened};
 
 use crate::fault::SealerFault;
 use crate::sealer::Sealer;
@@ -51,11 +51,7 @@ impl<'a> Book<'a> {
 }
 
 impl Sealer for Book<'_> {
-    ghost genuine = { book_genuine };
-
-    ghost seals = { book_seals };
-
-    ghost given = { book_given };
+    ghost desk = { book_desk };
 
     fn seal(&mut self, text: Text) -> Result<Seal, SealerFault> {
         if self.left(text.party) == 0 {

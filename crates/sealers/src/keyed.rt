@@ -2,7 +2,7 @@
 ghost use Rattle.std.specs.Borrow.{sem, follows};
 ghost use Rattle.std.specs.Prelude.{◌≡◌, ◌-◌, ◌<◌, vec_len, Decides, slice_index_or};
 ghost use Rattle.std.specs.Vec.{with_item};
-ghost use Rattle.sealers.specs.Keys.{key_place, key_row, key_seal, keyed_genuine, keyed_seals, keyed_given, spent_row, AllWithin, KeyedOpened};
+ghost use Rattle.sealers.specs.Keys.{key_place, key_row, key_seal, keyed_desk, spent_row, AllWithin, KeyedOpened};
 ghost use Rattle.sealers.specs.contracts.keyed.Keyed.{the_row as keyed_type};
 ghost use Rattle.sealers.specs.contracts.keyed.KeyRow.{the_row as row_type};
 
@@ -99,11 +99,7 @@ impl Keyed {
 }
 
 impl Sealer for Keyed {
-    ghost genuine = { keyed_genuine };
-
-    ghost seals = { keyed_seals };
-
-    ghost given = { keyed_given };
+    ghost desk = { keyed_desk };
 
     fn seal(&mut self, text: Text) -> Result<Seal, SealerFault> {
         let Some(row) = self.row_of(text.party) else {

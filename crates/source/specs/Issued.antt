@@ -9,7 +9,7 @@ use Rattle.wire.specs.declared.text.Text.{Text}
 use Rattle.wire.specs.Texts.{configuration_text}
 use Rattle.sealers.specs.declared.fault.SealerFault.{SealerFault}
 use Rattle.sealers.specs.Faults.{sealer_refusal}
-use Rattle.sealers.specs.Sealing.{Sealed, sealed, GenuineAfter}
+use Rattle.sealers.specs.Sealing.{Desk, Sealed, sealed, GenuineAfter}
 use Rattle.source.specs.declared.fault.SourceFault.{SourceFault}
 use Rattle.source.specs.declared.fault.SourceFault.TheVariants.{UsedUp, Sealer}
 use Rattle.source.specs.declared.state.Source.{Source}
@@ -45,13 +45,13 @@ abbrev pub signing : Sealed → Source → ReplicaSet → Issued
 signing s source set = signed s.answer s.seals source set
 
 -- the source seals the configuration of the next epoch; a refusal leaves source and sealer as they were
-abbrev pub issued : Source → ReplicaSet → (ℕ → ℕ) → (Text → Seal) → Issued
-issued source set seals given =
-    cond (not (nat_lt source.newest 4294967295)) (record { answer = Err UsedUp; source = source; seals = seals })
-    (signing (sealed seals (given (next_text source set)) (next_text source set)) source set)
+abbrev pub issued : Source → ReplicaSet → Desk → Issued
+issued source set desk =
+    cond (not (nat_lt source.newest 4294967295)) (record { answer = Err UsedUp; source = source; seals = desk.seals })
+    (signing (sealed desk.seals (desk.given (next_text source set)) (next_text source set)) source set)
 
 -- which seals are genuine afterwards
-abbrev pub GenuineIssued : Source → ReplicaSet → (ℕ → ℕ) → (Text → Seal) → (Text → Seal → Bool) → (Text → Seal → Bool) → Type 0
-GenuineIssued source set seals given before after =
-    cond (not (nat_lt source.newest 4294967295)) (after ≡ before)
-    (GenuineAfter before (next_text source set) (sealed seals (given (next_text source set)) (next_text source set)).answer after)
+abbrev pub GenuineIssued : Source → ReplicaSet → Desk → (Text → Seal → Bool) → Type 0
+GenuineIssued source set desk after =
+    cond (not (nat_lt source.newest 4294967295)) (after ≡ desk.genuine)
+    (GenuineAfter desk.genuine (next_text source set) (sealed desk.seals (desk.given (next_text source set)) (next_text source set)).answer after)

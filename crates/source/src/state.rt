@@ -26,8 +26,8 @@ impl Source {
         set: ReplicaSet,
         sealer: &mut L,
     ) -> Result<Configuration, SourceFault>
-        ensures change { record { answer = result; source = self.new; seals = L.Sealer.seals sealer.new } ≡ issued self.old set (L.Sealer.seals sealer.old) (L.Sealer.given sealer.old) }
-        ensures grows { GenuineIssued self.old set (L.Sealer.seals sealer.old) (L.Sealer.given sealer.old) (L.Sealer.genuine sealer.old) (L.Sealer.genuine sealer.new) }
+        ensures change { record { answer = result; source = self.new; seals = (L.Sealer.desk sealer.new).seals } ≡ issued self.old set (L.Sealer.desk sealer.old) }
+        ensures grows { GenuineIssued self.old set (L.Sealer.desk sealer.old) (L.Sealer.desk sealer.new).genuine }
     {
         let epoch = self.newest.checked_add(1).ok_or(SourceFault::UsedUp)?;
         let unsealed = Configuration {
