@@ -125,102 +125,24 @@ party_in rules n = party_within rules (party_of n)
 
 -- the hall with another post
 abbrev pub with_post : Hall → Table Entry → Hall
-with_post h post = record {
-  rules = h.rules;
-  marked = h.marked;
-  lengths = h.lengths;
-  source = h.source;
-  moment = h.moment;
-  post = post;
-  log = h.log;
-  roll = h.roll;
-  seats = h.seats;
-  place = h.place;
-  saves = h.saves;
-  seals = h.seals;
-}
+with_post h post = record h { post = post }
 
 -- the hall with another seat for client c
 abbrev pub with_seat : Hall → ℕ → Seat → Hall
-with_seat h c seat = record {
-  rules = h.rules;
-  marked = h.marked;
-  lengths = h.lengths;
-  source = h.source;
-  moment = h.moment;
-  post = h.post;
-  log = h.log;
-  roll = h.roll;
-  seats = slice_set h.seats (c - 1) seat;
-  place = h.place;
-  saves = h.saves;
-  seals = h.seals;
-}
+with_seat h c seat = record h { seats = slice_set h.seats (c - 1) seat }
 
 -- the hall with another log and moment
 abbrev pub with_log : Hall → Table Operation → ℕ → Hall
-with_log h log moment = record {
-  rules = h.rules;
-  marked = h.marked;
-  lengths = h.lengths;
-  source = h.source;
-  moment = moment;
-  post = h.post;
-  log = log;
-  roll = h.roll;
-  seats = h.seats;
-  place = h.place;
-  saves = h.saves;
-  seals = h.seals;
-}
+with_log h log moment = record h { log = log; moment = moment }
 
 -- the hall with other seals left
 abbrev pub with_seals : Hall → (ℕ → ℕ) → Hall
-with_seals h seals = record {
-  rules = h.rules;
-  marked = h.marked;
-  lengths = h.lengths;
-  source = h.source;
-  moment = h.moment;
-  post = h.post;
-  log = h.log;
-  roll = h.roll;
-  seats = h.seats;
-  place = h.place;
-  saves = h.saves;
-  seals = seals;
-}
+with_seals h seals = record h { seals = seals }
 
 -- the hall with another store
 abbrev pub with_store : Hall → (ℕ → Option Card) → Saves → Hall
-with_store h place saves = record {
-  rules = h.rules;
-  marked = h.marked;
-  lengths = h.lengths;
-  source = h.source;
-  moment = h.moment;
-  post = h.post;
-  log = h.log;
-  roll = h.roll;
-  seats = h.seats;
-  place = place;
-  saves = saves;
-  seals = h.seals;
-}
+with_store h place saves = record h { place = place; saves = saves }
 
 -- the hall with another source and roll
 abbrev pub with_source : Hall → Source → Table Configuration → Hall
-with_source h source roll = record {
-  rules = h.rules;
-  marked = h.marked;
-  lengths = h.lengths;
-  source = source;
-  moment = h.moment;
-  post = h.post;
-  log = h.log;
-  roll = roll;
-  seats = h.seats;
-  place = h.place;
-  saves = h.saves;
-  seals = h.seals;
-}
+with_source h source roll = record h { source = source; roll = roll }
