@@ -30,13 +30,7 @@ use Rattle.model.proofs.Seats.{with_line, base_moved, counts_kept, own_moved, se
 
 -- the operation of a seat, ended with the pair of this line
 abbrev pub ended_op : World → Seat → Line → Operation
-ended_op w seat line = record {
-  client = (operation_of w.hall seat.operation).client;
-  writes = (operation_of w.hall seat.operation).writes;
-  began = (operation_of w.hall seat.operation).began;
-  ended = Some (w.hall.moment + 1);
-  pair = line.highest;
-}
+ended_op w seat line = record (operation_of w.hall seat.operation) { ended = Some (w.hall.moment + 1); pair = line.highest }
 
 -- what an end asks for
 pub record Ending (w : World) (c : ℕ) (seat : Seat) (line : Line) : Type 0 where

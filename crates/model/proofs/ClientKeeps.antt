@@ -46,12 +46,7 @@ sealed_with (Some t) sealed = t ∷ sealed
 
 -- the world after a step of client c
 abbrev pub client_world : World → ℕ → Line → Option Entry → (ℕ → ℕ) → (Text → Seal → Bool) → World
-client_world w c line post seals genuine = record {
-  hall = client_moves w.hall c (seat_of w.hall c) line post seals;
-  next = w.next;
-  genuine = genuine;
-  given = w.given;
-}
+client_world w c line post seals genuine = record w { hall = client_moves w.hall c (seat_of w.hall c) line post seals; genuine = genuine }
 
 -- the post with what a step answers
 abbrev table_after : Table Entry → Option Entry → Table Entry

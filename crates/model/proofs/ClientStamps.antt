@@ -37,13 +37,7 @@ use Rattle.model.proofs.Ways.{some_same}
 
 -- the operation of a seat, with the pair of this line
 abbrev pub stamped_op : World → Seat → Line → Operation
-stamped_op w seat line = record {
-  client = (operation_of w.hall seat.operation).client;
-  writes = (operation_of w.hall seat.operation).writes;
-  began = (operation_of w.hall seat.operation).began;
-  ended = (operation_of w.hall seat.operation).ended;
-  pair = line.highest;
-}
+stamped_op w seat line = record (operation_of w.hall seat.operation) { pair = line.highest }
 
 -- no known pair has a count above the number of entries
 pub known_low : {kind : ℕ} {sealed : List Text} {w : World} → Holds kind sealed w → (p : Pair) → KnownPair w.hall p → p.stamp.count ≤ length w.hall.post.list

@@ -188,13 +188,7 @@ module _ (kind : ℕ) (sealed : List Text) (w : World) (holds : Holds kind seale
   })
     where
       same : logged (operation_of w.hall (seat_of w.hall client.number).operation) (seat_of w.hall client.number).line line (w.hall.moment + 1)
-          ≡ record {
-            client = (operation_of w.hall (seat_of w.hall client.number).operation).client;
-            writes = (operation_of w.hall (seat_of w.hall client.number).operation).writes;
-            began = (operation_of w.hall (seat_of w.hall client.number).operation).began;
-            ended = (operation_of w.hall (seat_of w.hall client.number).operation).ended;
-            pair = line.highest;
-          }
+          ≡ record (operation_of w.hall (seat_of w.hall client.number).operation) { pair = line.highest }
       same = rw (not_ended, stamping)
 
       not_it : (j : ℕ) → j ≡ (seat_of w.hall client.number).operation → 0 < end_of (operation_of w.hall j) → ⊥
@@ -230,18 +224,12 @@ module _ (kind : ℕ) (sealed : List Text) (w : World) (holds : Holds kind seale
       unended WritingBack is b = (mine.open_back is).unended
       unended Over is b = absurd (clash b)
 
-      there : get_or (set w.hall.seats (client.number - 1) (record { line = line; operation = (seat_of w.hall client.number).operation; lodged = (seat_of w.hall client.number).lodged })) (client.number - 1) no_seat
-          ≡ record { line = line; operation = (seat_of w.hall client.number).operation; lodged = (seat_of w.hall client.number).lodged }
+      there : get_or (set w.hall.seats (client.number - 1) (record (seat_of w.hall client.number) { line = line })) (client.number - 1) no_seat
+          ≡ record (seat_of w.hall client.number) { line = line }
       there = seat_same w.hall client.number _ holds.sized low high
 
       put : get_or (set w.hall.log.list (seat_of w.hall client.number).operation (logged (operation_of w.hall (seat_of w.hall client.number).operation) (seat_of w.hall client.number).line line (w.hall.moment + 1))) (seat_of w.hall client.number).operation no_operation
-          ≡ record {
-            client = (operation_of w.hall (seat_of w.hall client.number).operation).client;
-            writes = (operation_of w.hall (seat_of w.hall client.number).operation).writes;
-            began = (operation_of w.hall (seat_of w.hall client.number).operation).began;
-            ended = Some (w.hall.moment + 1);
-            pair = line.highest;
-          }
+          ≡ record (operation_of w.hall (seat_of w.hall client.number).operation) { ended = Some (w.hall.moment + 1); pair = line.highest }
       put = get_or-set_same w.hall.log.list (seat_of w.hall client.number).operation _ no_operation own_op.logged ∙ rw ended
 
   -- whatever is posted

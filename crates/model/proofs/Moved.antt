@@ -21,24 +21,15 @@ use Rattle.model.proofs.Invariants.{views, history, StampedWrite, Sized, KnownTe
 use Rattle.model.proofs.Posts.{posted_in, before_end, at_end, sized_posted, seats_begin}
 
 abbrev pub moved : World → ℕ → Seat → List Operation → ℕ → Table Entry → (ℕ → ℕ) → (Text → Seal → Bool) → World
-moved w c seat ops moment table seals genuine = record {
-  hall = record {
-    rules = w.hall.rules;
-    marked = w.hall.marked;
-    lengths = w.hall.lengths;
-    source = w.hall.source;
+moved w c seat ops moment table seals genuine = record w {
+  hall = record w.hall {
     moment = moment;
     post = table;
-    log = record { list = ops; rest = w.hall.log.rest };
-    roll = w.hall.roll;
+    log = record w.hall.log { list = ops };
     seats = set w.hall.seats (c - 1) seat;
-    place = w.hall.place;
-    saves = w.hall.saves;
     seals = seals;
   };
-  next = w.next;
   genuine = genuine;
-  given = w.given;
 }
 
 -- the new entries are of client c, and ask in no round above this one

@@ -27,11 +27,11 @@ use Rattle.model.proofs.Invariants.{views, history, stamp_number, StampedWrite, 
 
 -- the world with one more entry in its post
 abbrev pub posted_in : World → Entry → World
-posted_in w x = record { hall = with_post w.hall (added w.hall.post x); next = w.next; genuine = w.genuine; given = w.given }
+posted_in w x = record w { hall = with_post w.hall (added w.hall.post x) }
 
 -- the world with another card for replica n
 abbrev pub saved_in : World → (ℕ → Option Card) → Saves → World
-saved_in w place saves = record { hall = with_store w.hall place saves; next = w.next; genuine = w.genuine; given = w.given }
+saved_in w place saves = record w { hall = with_store w.hall place saves }
 
 -- elements of a list with one more behind it
 pub before_end : {T : Type 0} (xs : List T) (x d : T) (n : ℕ) → n < length xs → get_or (xs ++ (x ∷ [])) n d ≡ get_or xs n d
@@ -184,20 +184,7 @@ post_keeps kind sealed w x holds room justified answer cards quiet = record {
 -- the world with other seats, another store, other seals left, and what is open otherwise
 abbrev pub aside : World → List Seat → (ℕ → Option Card) → Saves → (ℕ → ℕ) → ℕ → (Text → Seal) → World
 aside w seats place saves seals open_place given = record {
-  hall = record {
-    rules = w.hall.rules;
-    marked = w.hall.marked;
-    lengths = w.hall.lengths;
-    source = w.hall.source;
-    moment = w.hall.moment;
-    post = w.hall.post;
-    log = w.hall.log;
-    roll = w.hall.roll;
-    seats = seats;
-    place = place;
-    saves = saves;
-    seals = seals;
-  };
+  hall = record w.hall { seats = seats; place = place; saves = saves; seals = seals };
   next = open_place;
   genuine = w.genuine;
   given = given;
@@ -306,7 +293,7 @@ seats_keep kind sealed w seats open_place given holds same rules =
 
 -- what store and sealer leave open does not matter
 pub open_keeps : (kind : ℕ) (sealed : List Text) (w : World) (open_place : ℕ) (given : Text → Seal) → Holds kind sealed w
-    → Holds kind sealed (record { hall = w.hall; next = open_place; genuine = w.genuine; given = given })
+    → Holds kind sealed (record w { next = open_place; given = given })
 open_keeps kind sealed w open_place given holds =
     seats_keep kind sealed w w.hall.seats open_place given holds refl
     (λ c low high. seat_aside kind sealed w w.hall.seats w.hall.place w.hall.saves w.hall.seals open_place given holds c low high (omega arith))

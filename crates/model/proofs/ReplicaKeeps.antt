@@ -40,7 +40,7 @@ use Rattle.model.proofs.Ways.{way, not_ok, ok_same, some_same, not_some, both}
 
 -- the world after a step of a replica
 abbrev pub replica_world : World → (ℕ → Option Card) → Saves → Option Entry → World
-replica_world w place saves post = record { hall = posting (with_store w.hall place saves) post; next = w.next; genuine = w.genuine; given = w.given }
+replica_world w place saves post = record w { hall = posting (with_store w.hall place saves) post }
 
 -- what a step without a save leaves
 record Unsaved (w : World) (said post : Option Entry) (place : ℕ → Option Card) (saves : Saves) : Type 0 where

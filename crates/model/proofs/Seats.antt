@@ -24,7 +24,7 @@ use Rattle.model.proofs.Posts.{log_later}
 
 -- the seat with another line
 abbrev pub with_line : Seat → Line → Seat
-with_line seat line = record { line = line; operation = seat.operation; lodged = seat.lodged }
+with_line seat line = record seat { line = line }
 
 -- what a seat keeps in every stage
 pub record SeatBase (kind : ℕ) (w : World) (c : ℕ) (seat : Seat) : Type 0 where

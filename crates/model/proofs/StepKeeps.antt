@@ -48,7 +48,7 @@ use Rattle.model.proofs.Ways.{way, way_in, both, neither, not_both}
 
 -- the world with another hall
 abbrev pub in_hall : World → Hall → World
-in_hall w h = record { hall = h; next = w.next; genuine = w.genuine; given = w.given }
+in_hall w h = record w { hall = h }
 
 -- what became of the hall
 pub became : {V : Type 0} {a b : Answer V} {h h' : Hall} → ◌≡◌ {A = Outcome V} (record { answer = a; hall = h }) (record { answer = b; hall = h' }) → h ≡ h'
@@ -173,7 +173,7 @@ module _ {V : Type 0} (kind : Kind V) (sealed : List Text) (w : World) (holds : 
 
   -- a world with this hall and these genuine seals
   abbrev with_seals_of : Hall → (Text → Seal → Bool) → World
-  with_seals_of h genuine = record { hall = h; next = w.next; genuine = genuine; given = w.given }
+  with_seals_of h genuine = record w { hall = h; genuine = genuine }
 
   -- refused: nothing was sealed
   refused_step : (f : HallFault) (a : Answer V) (h' : Hall) (t : Text) (genuine : Text → Seal → Bool) → refuses f w.hall ≡ record { answer = a; hall = h' }
@@ -301,8 +301,8 @@ module _ {V : Type 0} (kind : Kind V) (sealed : List Text) (w : World) (holds : 
           (replica_step_of w kind.number r (entry_of w.hall number)) refl z))
 
 -- what store and sealer leave open is as it may be
-opened_so : (kind : ℕ) (sealed : List Text) (w w' : World) → Holds kind sealed (record { hall = w'.hall; next = w.next; genuine = w'.genuine; given = w.given }) → Holds kind sealed w'
-opened_so kind sealed w w' holds = open_keeps kind sealed (record { hall = w'.hall; next = w.next; genuine = w'.genuine; given = w.given }) w'.next w'.given holds
+opened_so : (kind : ℕ) (sealed : List Text) (w w' : World) → Holds kind sealed (record w' { next = w.next; given = w.given }) → Holds kind sealed w'
+opened_so kind sealed w w' holds = open_keeps kind sealed (record w' { next = w.next; given = w.given }) w'.next w'.given holds
 
 module _ {V : Type 0} (kind : Kind V) (sealed : List Text) (w w' : World) (a : Answer V) (small : kind.number ≤ 63)
     (holds : Holds kind.number sealed w) (unforged : UnforgedNow kind.number sealed w) where
@@ -311,7 +311,7 @@ module _ {V : Type 0} (kind : Kind V) (sealed : List Text) (w w' : World) (a : A
       → (outcome ≡ record { answer = a; hall = w'.hall } → Holds kind.number sealed (in_hall w w'.hall)) → Holds kind.number sealed w'
   plain_step outcome p same go =
       opened_so kind.number sealed w w'
-      (subst (λ g. Holds kind.number sealed (record { hall = w'.hall; next = w.next; genuine = g; given = w.given })) (sym same) (go (sym p)))
+      (subst (λ g. Holds kind.number sealed (record w { hall = w'.hall; genuine = g })) (sym same) (go (sym p)))
 
   -- every call keeps every rule
   pub step_keeps : (call : Call V) → Step kind w call a w' → Holds kind.number (sealed_with (sealed_in kind call w) sealed) w'

@@ -85,8 +85,8 @@ is_stamping Reading Over = false
 -- the line of the log after a step of its client: it gets its end with its pair, or a write gets its stamp and seal
 abbrev pub logged : Operation → Line → Line → ℕ → Operation
 logged op before after moment =
-    cond (has_ended before after) (record { client = op.client; writes = op.writes; began = op.began; ended = Some moment; pair = after.highest })
-    (cond (is_stamping before.stage after.stage) (record { client = op.client; writes = op.writes; began = op.began; ended = op.ended; pair = after.highest })
+    cond (has_ended before after) (record op { ended = Some moment; pair = after.highest })
+    (cond (is_stamping before.stage after.stage) (record op { pair = after.highest })
     op)
 
 -- an end takes the next moment
@@ -94,7 +94,7 @@ abbrev pub moment_after : ℕ → Line → Line → ℕ
 moment_after moment before after = cond (has_ended before after) (moment + 1) moment
 
 abbrev pub log_after : Table Operation → ℕ → Operation → Table Operation
-log_after log k op = record { list = slice_set log.list k op; rest = log.rest }
+log_after log k op = record log { list = slice_set log.list k op }
 
 -- the hall after a step of a client: its line, its line of the log, the moment, what it posts, and the seals left
 abbrev pub client_moves : Hall → ℕ → Seat → Line → Option Entry → (ℕ → ℕ) → Hall
@@ -102,7 +102,7 @@ client_moves h c seat line post seals =
     posting
     (with_seals
     (with_log
-    (with_seat h c (record { line = line; operation = seat.operation; lodged = seat.lodged }))
+    (with_seat h c (record seat { line = line }))
     (log_after h.log seat.operation (logged (operation_of h seat.operation) seat.line line (h.moment + 1)))
     (moment_after h.moment seat.line line))
     seals)

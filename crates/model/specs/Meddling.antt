@@ -11,17 +11,7 @@ use Rattle.model.specs.Answers.{Outcome, done, refuses, answers, with_its_tables
 
 -- the entry in this party's name
 abbrev pub sent_by : ℕ → Entry → Entry
-sent_by party e = record {
-  sender = party;
-  kind = e.kind;
-  addressee = e.addressee;
-  round = e.round;
-  epoch = e.epoch;
-  count = e.count;
-  writer = e.writer;
-  word = e.word;
-  seal = e.seal;
-}
+sent_by party e = record e { sender = party }
 
 abbrev pub meddle_by : {V : Type 0} → Option Party → Hall → ℕ → Entry → Outcome V
 meddle_by None h party e = refuses (NoSuch party) h

@@ -19,22 +19,13 @@ is_its_slip h c k =
 
 -- the client is idle; what it has counted and stamped stays
 abbrev pub released : Line → Line
-released line = record {
-  stage = Idle;
-  word = line.word;
-  configuration = line.configuration;
-  round = line.round;
-  counted = line.counted;
-  highest = line.highest;
-  agree = line.agree;
-  last_count = line.last_count;
-}
+released line = record line { stage = Idle }
 
 abbrev pub freed : Seat → Seat
-freed seat = record { line = released seat.line; operation = seat.operation; lodged = seat.lodged }
+freed seat = record seat { line = released seat.line }
 
 abbrev pub holding_slip : Seat → Option ℕ → Seat
-holding_slip seat lodged = record { line = seat.line; operation = seat.operation; lodged = lodged }
+holding_slip seat lodged = record seat { lodged = lodged }
 
 -- call off: not once it is over; the operation stays unfinished for good
 abbrev pub call_off_called : {V : Type 0} → World → ℕ → ℕ → Outcome V
