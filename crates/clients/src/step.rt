@@ -40,8 +40,8 @@ pub fn client_step<K: Kind, L: Sealer>(
     entry: &Entry,
     sealer: &mut L,
 ) -> Result<Option<Entry>, ClientFault>
-    ensures change { record { answer = result; line = line.new; seals = (L.Sealer.desk sealer.new).seals } ≡ client_stepped rules.now K.Kind.number (L.Sealer.desk sealer.old) client line.old entry.now }
-    ensures grows { GenuineStepped rules.now K.Kind.number (L.Sealer.desk sealer.old) client line.old entry.now (L.Sealer.desk sealer.new).genuine }
+    ensures change { record { answer = result; line = line.new; seals = (L.Sealer.desk sealer.new).seals } ≡ client_stepped rules.now K.Kind.NUMBER (L.Sealer.desk sealer.old) client line.old entry.now }
+    ensures grows { GenuineStepped rules.now K.Kind.NUMBER (L.Sealer.desk sealer.old) client line.old entry.now (L.Sealer.desk sealer.new).genuine }
 {
     let genuine = rules.is_genuine::<K, L>(entry, sealer);
     match decide(rules, client, line, entry, genuine) {
@@ -51,7 +51,7 @@ pub fn client_step<K: Kind, L: Sealer>(
             Ok(post)
         }
         Ok(Turn::Stamps(next)) => {
-            let seal = sealer.seal(Text::of_pair(K::kind_number(), next.highest))?;
+            let seal = sealer.seal(Text::of_pair(K::NUMBER, next.highest))?;
             let sealed = next.sealed_with(seal);
             *line = sealed;
             Ok(Some(write_of(client, &sealed)))

@@ -8,15 +8,11 @@ pub trait Kind: Copy {
     // The kind's own number, from 1 to 63; it begins every text that is sealed for one of its values.
     const NUMBER: u8;
 
-    ghost number: { ℕ };
+    ghost NUMBER: { ℕ };
 
     ghost word: { Self → Word };
 
     ghost value: { Word → Option Self };
-
-    // NUMBER, for code that is proved for every kind: no clause can name the constant.
-    fn kind_number() -> u8
-        ensures { result ≡ number };
 
     fn to_word(self) -> Word
         ensures { result ≡ word self };
@@ -24,7 +20,7 @@ pub trait Kind: Copy {
     fn from_word(w: Word) -> Option<Self>
         ensures { result ≡ value w };
 
-    ghost numbered: { (1 ≤ number) × (number ≤ 63) };
+    ghost numbered: { (1 ≤ NUMBER) × (NUMBER ≤ 63) };
 
     // A value's word gives back that value,
     ghost kept: { (v : Self) → value (word v) ≡ Some v };

@@ -9,10 +9,10 @@ use kinds::Kind;
 // All finished operations of a run, with some unfinished writes, stand in one order that keeps real time,
 // and each read gives the last write before it, or the opening value.
 pub fn operations_stand_in_one_order<K: Kind>()
-    ensures { OneOrder (record { number = K.Kind.number; word = K.Kind.word; value = K.Kind.value }) }
+    ensures { OneOrder (record { number = K.Kind.NUMBER; word = K.Kind.word; value = K.Kind.value }) }
 {}
 
 // The moments in the log keep the order of begins and ends.
 pub fn log_keeps_time<K: Kind>()
-    ensures { LogInTime (record { number = K.Kind.number; word = K.Kind.word; value = K.Kind.value }) }
+    ensures { LogInTime (record { number = K.Kind.NUMBER; word = K.Kind.word; value = K.Kind.value }) }
 {}

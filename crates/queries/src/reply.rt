@@ -23,9 +23,9 @@ pub enum Reply {
 fn value(kind: u64, word: Word) -> Option<Reply>
     ensures { result ≡ value_of kind word }
 {
-    if kind == u64::from(BinWeight::kind_number()) {
+    if kind == u64::from(BinWeight::NUMBER) {
         Some(Reply::Weighed(BinWeight::from_word(word)?))
-    } else if kind == u64::from(LotCard::kind_number()) {
+    } else if kind == u64::from(LotCard::NUMBER) {
         Some(Reply::Carded(LotCard::from_word(word)?))
     } else {
         None

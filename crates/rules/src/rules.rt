@@ -73,7 +73,7 @@ impl Rules {
 
     // Whether it is the opening pair, or a client of the hall has sealed it.
     pub fn is_genuine_pair<K: Kind, L: Sealer>(&self, pair: Pair, sealer: &L) -> bool
-        ensures { result ≡ genuine_pair self.now K.Kind.number (L.Sealer.desk sealer.now).genuine pair }
+        ensures { result ≡ genuine_pair self.now K.Kind.NUMBER (L.Sealer.desk sealer.now).genuine pair }
     {
         if self.is_opening_pair(pair) {
             return true;
@@ -81,7 +81,7 @@ impl Rules {
         if !self.has_client(pair.stamp.writer) {
             return false;
         }
-        sealer.check(Text::of_pair(K::kind_number(), pair), pair.seal)
+        sealer.check(Text::of_pair(K::NUMBER, pair), pair.seal)
     }
 
     // Whether it is the first configuration, or the source has sealed it.
@@ -100,7 +100,7 @@ impl Rules {
 
     // Whether what the entry carries is genuine: a pair, a configuration, or nothing.
     pub fn is_genuine<K: Kind, L: Sealer>(&self, entry: &Entry, sealer: &L) -> bool
-        ensures { result ≡ genuine_entry self.now K.Kind.number (L.Sealer.desk sealer.now).genuine entry.now }
+        ensures { result ≡ genuine_entry self.now K.Kind.NUMBER (L.Sealer.desk sealer.now).genuine entry.now }
     {
         match EntryKind::try_from(entry.kind) {
             Ok(EntryKind::Write | EntryKind::Pair | EntryKind::Stock) => {

@@ -30,7 +30,7 @@ fn weights_have_words(rt: HostRuntime) -> Result<(), Fail> {
         assert_eq!(rt; i64::from(weight.grams()), grams);
         assert_eq!(rt; u64::from(weight.lot()), lot);
     }
-    assert_eq!(rt; BinWeight::kind_number(), 1);
+    assert_eq!(rt; BinWeight::NUMBER, 1);
     Ok(())
 }
 
@@ -68,7 +68,7 @@ fn cards_have_words(rt: HostRuntime) -> Result<(), Fail> {
         assert_eq!(rt; LotCard::from_word(Word(word)), Some(card));
         assert_eq!(rt; there_and_back(card), Some(card));
     }
-    assert_eq!(rt; LotCard::kind_number(), 2);
+    assert_eq!(rt; LotCard::NUMBER, 2);
     Ok(())
 }
 

@@ -35,7 +35,7 @@ impl BinWeight {
 impl Kind for BinWeight {
     const NUMBER: u8 = 1;
 
-    ghost number = { 1 };
+    ghost NUMBER = { 1 };
 
     ghost word = { weight_word };
 
@@ -48,10 +48,6 @@ impl Kind for BinWeight {
     ghost exact = { λ w v e.
         let same = (only_if_some _ _ v e).1 in
         ap (λ n. record { 0 = n }) (ap (λ u. word_of u.grams u.lot) (sym same) ∙ word_back w.0) };
-
-    fn kind_number() -> u8 {
-        Self::NUMBER
-    }
 
     fn to_word(self) -> Word {
         Word((self.grams as i64 + LARGEST) as u64 * LOTS + self.lot as u64)

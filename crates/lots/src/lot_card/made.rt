@@ -74,7 +74,7 @@ impl LotCard {
 impl Kind for LotCard {
     const NUMBER: u8 = 2;
 
-    ghost number = { 2 };
+    ghost NUMBER = { 2 };
 
     ghost word = { card_word };
 
@@ -85,10 +85,6 @@ impl Kind for LotCard {
     ghost kept = { card_kept };
 
     ghost exact = { card_exact };
-
-    fn kind_number() -> u8 {
-        Self::NUMBER
-    }
 
     fn to_word(self) -> Word {
         let (tag, reason, day) = match self {
