@@ -74,54 +74,18 @@ opened line stage round pair = record {
 
 -- what the operation is to write, none for a read
 abbrev pub asking : Line → Option Word → Line
-asking line word = record {
-  stage = line.stage;
-  word = word;
-  configuration = line.configuration;
-  round = line.round;
-  counted = line.counted;
-  highest = line.highest;
-  agree = line.agree;
-  last_count = line.last_count;
-}
+asking line word = record line { word = word }
 
 abbrev pub configured_as : Line → Configuration → Line
-configured_as line c = record {
-  stage = line.stage;
-  word = line.word;
-  configuration = c;
-  round = line.round;
-  counted = line.counted;
-  highest = line.highest;
-  agree = line.agree;
-  last_count = line.last_count;
-}
+configured_as line c = record line { configuration = c }
 
 -- the operation has ended, with the highest pair as its own
 abbrev pub ended : Line → Line
-ended line = record {
-  stage = Over;
-  word = line.word;
-  configuration = line.configuration;
-  round = line.round;
-  counted = line.counted;
-  highest = line.highest;
-  agree = line.agree;
-  last_count = line.last_count;
-}
+ended line = record line { stage = Over }
 
 -- one more replica counted
 abbrev pub counting : Line → Replica → Line
-counting line from = record {
-  stage = line.stage;
-  word = line.word;
-  configuration = line.configuration;
-  round = line.round;
-  counted = record { 0 = inserted line.counted.0 from.number };
-  highest = line.highest;
-  agree = line.agree;
-  last_count = line.last_count;
-}
+counting line from = record line { counted = record { 0 = inserted line.counted.0 from.number } }
 
 abbrev pub same_stamp : Stamp → Stamp → Bool
 same_stamp s t = s.count == t.count && s.writer == t.writer
@@ -129,16 +93,7 @@ same_stamp s t = s.count == t.count && s.writer == t.writer
 -- one more replica counted with its pair: the highest stamp is kept, of equal stamps the first heard,
 -- and whether all stamps so far agree
 abbrev pub hearing : Line → Replica → Pair → Line
-hearing line from pair = record {
-  stage = line.stage;
-  word = line.word;
-  configuration = line.configuration;
-  round = line.round;
-  counted = record { 0 = inserted line.counted.0 from.number };
-  highest = cond (line.counted.0 == 0) pair (cond (above pair.stamp line.highest.stamp) pair line.highest);
-  agree = cond (line.counted.0 == 0) true (line.agree && same_stamp pair.stamp line.highest.stamp);
-  last_count = line.last_count;
-}
+hearing line from pair = record line { counted = record { 0 = inserted line.counted.0 from.number }; highest = cond (line.counted.0 == 0) pair (cond (above pair.stamp line.highest.stamp) pair line.highest); agree = cond (line.counted.0 == 0) true (line.agree && same_stamp pair.stamp line.highest.stamp) }
 
 -- the write's stamp is taken: its pair in flight, in the next round, and its count the client's last
 abbrev pub stamped : Line → ℕ → Pair → Line
@@ -155,13 +110,4 @@ stamped line round pair = record {
 
 -- the pair in flight with its seal
 abbrev pub sealed_with : Line → Seal → Line
-sealed_with line seal = record {
-  stage = line.stage;
-  word = line.word;
-  configuration = line.configuration;
-  round = line.round;
-  counted = line.counted;
-  highest = record { stamp = line.highest.stamp; word = line.highest.word; seal = seal };
-  agree = line.agree;
-  last_count = line.last_count;
-}
+sealed_with line seal = record line { highest = record line.highest { seal = seal } }

@@ -33,6 +33,10 @@ moves line post = Ok (Moves line post)
 abbrev pub after : ℕ → (ℕ → Verdict) → Verdict
 after n go = cond (nat_lt n 4294967295) (go (n + 1)) (Err TooHigh)
 
+-- the same number, or that there is none
+abbrev pub one_more : ℕ → Result ℕ Objection
+one_more n = cond (nat_lt n 4294967295) (Ok (n + 1)) (Err TooHigh)
+
 -- what is posted in a round that asks for pairs, and in one with a pair in flight
 abbrev pub read_of : Client → Line → Entry
 read_of client line = read_entry client.number line.round line.configuration.epoch
@@ -46,6 +50,14 @@ with_read client line = moves line (Some (read_of client line))
 abbrev pub with_write : Client → Line → Verdict
 with_write client line = moves line (Some (write_of client line))
 
+-- the next round asks for pairs
+abbrev pub reads_next : Client → Line → Verdict
+reads_next client line = after line.round (λ round. with_read client (opened line Reading round no_pair))
+
+-- the next round, of this stage, has the line's highest pair in flight
+abbrev pub writes_next : Stage → Client → Line → Verdict
+writes_next stage client line = after line.round (λ round. with_write client (opened line stage round line.highest))
+
 -- the pair of a write: one above the larger of the highest count heard and the client's own last; not sealed yet
 abbrev pub unsealed : Client → ℕ → Word → Pair
 unsealed client count word = record { stamp = record { count = count; writer = client.number }; word = word; seal = record { 0 = 0 } }
@@ -55,8 +67,7 @@ unsealed client count word = record { stamp = record { count = count; writer = c
 -- a write takes its stamp, and writes in the next round
 abbrev pub closing : Option Word → Client → Line → Verdict
 closing None client line =
-    cond line.agree (moves (ended line) None)
-    (after line.round (λ round. with_write client (opened line WritingBack round line.highest)))
+    cond line.agree (moves (ended line) None) (writes_next WritingBack client line)
 closing (Some word) client line =
     after (max line.highest.stamp.count line.last_count) (λ count.
     after line.round (λ round.
@@ -103,9 +114,9 @@ on_ack rules line e =
 -- a writing client sends the same pair in a new round, any other reads again
 abbrev pub reopening : Stage → Client → Line → Verdict
 reopening Idle client line = moves line None
-reopening Reading client line = after line.round (λ round. with_read client (opened line Reading round no_pair))
-reopening Writing client line = after line.round (λ round. with_write client (opened line Writing round line.highest))
-reopening WritingBack client line = after line.round (λ round. with_read client (opened line Reading round no_pair))
+reopening Reading client line = reads_next client line
+reopening Writing client line = writes_next Writing client line
+reopening WritingBack client line = reads_next client line
 reopening Over client line = moves line None
 
 -- CONFIG: it has to be newer, and genuine

@@ -18,6 +18,7 @@ pub enum ClientFault {
     Sealer(SealerFault),
 }
 
+// Stays: written out, since contracts name the error that `?` makes and a derived From says nothing of it.
 impl From<SealerFault> for ClientFault {
     ghost from_gives = { λ e r. r ≡ Sealer e };
 
@@ -32,7 +33,7 @@ impl Fault for ClientFault {
     fn told(&self) -> Refusal {
         let (number, client) = match *self {
             ClientFault::Busy(client) => (7, client),
-            ClientFault::Objects(client, why) => (why.number(), client),
+            ClientFault::Objects(client, why) => (u8::from(why), client),
             ClientFault::Sealer(fault) => return fault.told(),
         };
         Refusal {

@@ -1,9 +1,9 @@
 // The line of a client: where it stands with its operation.
 ghost use Rattle.std.specs.Prelude.{◌≡◌};
-ghost use Rattle.clients.specs.Lines.{idle_line, is_open, is_idle, is_reading, is_writing, opened, asking, configured_as, ended, counting, hearing, stamped, sealed_with, same_stamp};
+ghost use Rattle.clients.specs.Lines.{idle_line, is_open, is_idle, is_writing, opened, asking, configured_as, ended, counting, hearing, stamped, sealed_with};
 
 use kinds::Word;
-use wire::{Configuration, Pair, Replica, ReplicaSet, Seal, Stamp};
+use wire::{Configuration, Pair, Replica, ReplicaSet, Seal};
 
 #[derive(Clone, Copy, PartialEq, Eq, Debug)]
 pub enum Stage {
@@ -29,22 +29,13 @@ pub struct Line {
     // whose answers to this round are counted
     pub counted: ReplicaSet,
     // the highest pair heard; while writing and writing back the pair in flight; then the operation's pair
+    // Stays: a pair and no Option, which would be None in a reading round alone, until its first answer is counted.
     pub highest: Pair,
     // whether all stamps heard in this round agree
     pub agree: bool,
     // the count of its latest stamp
     pub last_count: u32,
 }
-
-// No pair yet.
-pub(crate) const NO_PAIR: Pair = Pair {
-    stamp: Stamp {
-        count: 0,
-        writer: 0,
-    },
-    word: Word(0),
-    seal: Seal(0),
-};
 
 impl Stage {
     // Whether a round is open.
@@ -57,13 +48,7 @@ impl Stage {
     pub fn is_idle(self) -> bool
         ensures { result ≡ is_idle self }
     {
-        matches!(self, Stage::Idle)
-    }
-
-    pub(crate) fn is_reading(self) -> bool
-        ensures { result ≡ is_reading self }
-    {
-        matches!(self, Stage::Reading)
+        self == Stage::Idle
     }
 
     // Whether ACKs are counted.
@@ -85,7 +70,7 @@ impl Line {
             configuration,
             round: 0,
             counted: ReplicaSet(0),
-            highest: NO_PAIR,
+            highest: Pair::default(),
             agree: true,
             last_count: 0,
         }
@@ -145,27 +130,12 @@ impl Line {
     pub(crate) fn hearing(self, from: Replica, pair: Pair) -> Line
         ensures { result ≡ hearing self from pair }
     {
-        let counted = self.counted.with(from);
-        if self.counted.0 == 0 {
-            return Line {
-                counted,
-                highest: pair,
-                agree: true,
-                ..self
-            };
-        }
-        let agree = self.agree && is_same(pair.stamp, self.highest.stamp);
-        if pair.stamp.is_above(self.highest.stamp) {
-            return Line {
-                counted,
-                highest: pair,
-                agree,
-                ..self
-            };
-        }
+        let is_first = self.counted == ReplicaSet(0);
+        let is_highest = is_first || pair.stamp.is_above(self.highest.stamp);
         Line {
-            counted,
-            agree,
+            counted: self.counted.with(from),
+            highest: if is_highest { pair } else { self.highest },
+            agree: is_first || self.agree && pair.stamp == self.highest.stamp,
             ..self
         }
     }
@@ -192,10 +162,4 @@ impl Line {
             ..self
         }
     }
-}
-
-fn is_same(a: Stamp, b: Stamp) -> bool
-    ensures { result ≡ same_stamp a b }
-{
-    a.count == b.count && a.writer == b.writer
 }

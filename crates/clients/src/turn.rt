@@ -1,11 +1,10 @@
 // What a client makes of an entry, as a function on values.
 ghost use Rattle.std.specs.Prelude.{◌≡◌};
-ghost use Rattle.rules.specs.Senders.{sender_within};
-ghost use Rattle.clients.specs.Turns.{closing, decided, is_quorum, on_ack, on_behind, on_config, on_pair, reopening, read_of, unsealed, with_read, with_write, write_of};
+ghost use Rattle.clients.specs.Turns.{closing, decided, on_ack, on_behind, on_config, on_pair, one_more, read_of, reads_next, reopening, unsealed, write_of, writes_next};
 
-use crate::line::{Line, NO_PAIR, Stage};
+use crate::line::{Line, Stage};
 use kinds::Word;
-use rules::{Objection, Rules, config_entry, read_entry, sender_within, write_entry};
+use rules::{Heading, Judged, Objection, Rules, configured, counted_from};
 use wire::{Client, Entry, EntryKind, Pair, Seal, Stamp};
 
 #[derive(Clone, Copy, PartialEq, Eq, Debug)]
@@ -16,176 +15,190 @@ pub enum Turn {
     Stamps(Line),
 }
 
-// What is posted in a round that asks for pairs.
-pub(crate) fn read_of(client: Client, line: &Line) -> Entry
-    ensures { result ≡ read_of client line.now }
+// One more than this number, as far as there is one.
+pub(crate) fn one_more(number: u32) -> Result<u32, Objection>
+    ensures { result ≡ one_more number }
 {
-    read_entry(client.number(), line.round, line.configuration.epoch)
+    number.checked_add(1).ok_or(Objection::TooHigh)
 }
 
-// What is posted in a round with a pair in flight.
-pub(crate) fn write_of(client: Client, line: &Line) -> Entry
-    ensures { result ≡ write_of client line.now }
-{
-    write_entry(
-        client.number(),
-        line.round,
-        line.configuration.epoch,
-        line.highest,
-    )
+// A client at its line.
+#[derive(Clone, Copy, PartialEq, Eq, Debug)]
+pub(crate) struct Standing {
+    pub(crate) client: Client,
+    pub(crate) line: Line,
 }
 
-fn with_read(client: Client, line: Line) -> Result<Turn, Objection>
-    ensures { result ≡ with_read client line }
-{
-    Ok(Turn::Moves(line, Some(read_of(client, &line))))
-}
-
-fn with_write(client: Client, line: Line) -> Result<Turn, Objection>
-    ensures { result ≡ with_write client line }
-{
-    Ok(Turn::Moves(line, Some(write_of(client, &line))))
-}
-
-fn unsealed(client: Client, count: u32, word: Word) -> Pair
-    ensures { result ≡ unsealed client count word }
-{
-    Pair {
-        stamp: Stamp {
-            count,
-            writer: client.number(),
-        },
-        word,
-        seal: Seal(0),
-    }
-}
-
-// A round of reading closes.
-fn closing(client: Client, line: Line) -> Result<Turn, Objection>
-    ensures { result ≡ closing line.word client line }
-{
-    match line.word {
-        None if line.agree => Ok(Turn::Moves(line.ended(), None)),
-        None => {
-            let round = line.round.checked_add(1).ok_or(Objection::TooHigh)?;
-            with_write(client, line.opened(Stage::WritingBack, round, line.highest))
-        }
-        Some(word) => {
-            let highest = line.highest.stamp.count.max(line.last_count);
-            let count = highest.checked_add(1).ok_or(Objection::TooHigh)?;
-            let round = line.round.checked_add(1).ok_or(Objection::TooHigh)?;
-            let pair = unsealed(client, count, word);
-            Ok(Turn::Stamps(line.stamped(round, pair)))
+impl Standing {
+    // What it posts goes to any replica, in its round and its epoch.
+    fn heading(self) -> Heading
+        ensures { result ≡ record { sender = self.client.number; addressee = 0; round = self.line.round; epoch = self.line.configuration.epoch } }
+    {
+        Heading {
+            sender: self.client.number(),
+            addressee: 0,
+            round: self.line.round,
+            epoch: self.line.configuration.epoch,
         }
     }
+
+    // What is posted in a round that asks for pairs.
+    pub(crate) fn read(self) -> Entry
+        ensures { result ≡ read_of self.client self.line }
+    {
+        self.heading().plain(EntryKind::Read)
+    }
+
+    // What is posted in a round with a pair in flight.
+    pub(crate) fn write(self) -> Entry
+        ensures { result ≡ write_of self.client self.line }
+    {
+        self.heading().paired(EntryKind::Write, self.line.highest)
+    }
+
+    // The same client at another line.
+    pub(crate) fn at(self, line: Line) -> Standing
+        ensures { result ≡ record { client = self.client; line = line } }
+    {
+        Standing { line, ..self }
+    }
+
+    // It asks for pairs in the next round.
+    fn reads_next(self) -> Result<Turn, Objection>
+        ensures { result ≡ reads_next self.client self.line }
+    {
+        let round = one_more(self.line.round)?;
+        let line = self.line.opened(Stage::Reading, round, Pair::default());
+        Ok(Turn::Moves(line, Some(self.at(line).read())))
+    }
+
+    // It writes the highest pair, or its own, in the next round.
+    fn writes_next(self, stage: Stage) -> Result<Turn, Objection>
+        ensures { result ≡ writes_next stage self.client self.line }
+    {
+        let round = one_more(self.line.round)?;
+        let line = self.line.opened(stage, round, self.line.highest);
+        Ok(Turn::Moves(line, Some(self.at(line).write())))
+    }
+
+    fn unsealed(self, count: u32, word: Word) -> Pair
+        ensures { result ≡ unsealed self.client count word }
+    {
+        Pair {
+            stamp: Stamp {
+                count,
+                writer: self.client.number(),
+            },
+            word,
+            seal: Seal(0),
+        }
+    }
+
+    // A round of reading closes.
+    fn closing(self) -> Result<Turn, Objection>
+        ensures { result ≡ closing self.line.word self.client self.line }
+    {
+        let line = self.line;
+        match line.word {
+            None if line.agree => Ok(Turn::Moves(line.ended(), None)),
+            None => self.writes_next(Stage::WritingBack),
+            Some(word) => {
+                let count = one_more(line.highest.stamp.count.max(line.last_count))?;
+                let round = one_more(line.round)?;
+                Ok(Turn::Stamps(line.stamped(round, self.unsealed(count, word))))
+            }
+        }
+    }
+
+    // PAIR: the answer to READ.
+    fn on_pair(self, rules: &Rules, judged: &Judged) -> Result<Turn, Objection>
+        ensures { result ≡ on_pair rules.now self.client self.line judged.now.entry judged.now.genuine }
+    {
+        let line = self.line;
+        if line.stage != Stage::Reading || judged.entry.round != line.round {
+            return Err(Objection::NotAwaited);
+        }
+        let from = counted_from(line.configuration.set, line.counted, judged.entry.sender)?;
+        let heard = line.hearing(from, judged.pair()?);
+        if rules.is_quorum(heard.counted) {
+            self.at(heard).closing()
+        } else {
+            Ok(Turn::Moves(heard, None))
+        }
+    }
+
+    // ACK: the answer to WRITE.
+    fn on_ack(self, rules: &Rules, entry: &Entry) -> Result<Turn, Objection>
+        ensures { result ≡ on_ack rules.now self.line entry.now }
+    {
+        let line = self.line;
+        if !line.stage.is_writing() || entry.round != line.round {
+            return Err(Objection::NotAwaited);
+        }
+        let from = counted_from(line.configuration.set, line.counted, entry.sender)?;
+        let heard = line.counting(from);
+        let next = if rules.is_quorum(heard.counted) {
+            heard.ended()
+        } else {
+            heard
+        };
+        Ok(Turn::Moves(next, None))
+    }
+
+    // In a new configuration an open round begins anew: a stamped write with the same pair, all else by reading again.
+    fn reopening(self) -> Result<Turn, Objection>
+        ensures { result ≡ reopening self.line.stage self.client self.line }
+    {
+        match self.line.stage {
+            Stage::Idle | Stage::Over => Ok(Turn::Moves(self.line, None)),
+            Stage::Writing => self.writes_next(Stage::Writing),
+            Stage::Reading | Stage::WritingBack => self.reads_next(),
+        }
+    }
+
+    // CONFIG: a newer configuration.
+    fn on_config(self, judged: &Judged) -> Result<Turn, Objection>
+        ensures { result ≡ on_config self.client self.line judged.now.entry judged.now.genuine }
+    {
+        let line = self.line;
+        if judged.entry.epoch <= line.configuration.epoch {
+            return Err(Objection::NotNext);
+        }
+        let newer = line.configured_as(judged.configuration()?);
+        self.at(newer).reopening()
+    }
+
+    // BEHIND: a replica does not know the client's epoch yet, and is shown it.
+    fn on_behind(self, entry: &Entry) -> Result<Turn, Objection>
+        ensures { result ≡ on_behind self.client self.line entry.now }
+    {
+        let line = self.line;
+        if !line.stage.is_open() || entry.round != line.round {
+            return Err(Objection::NotAwaited);
+        }
+        let shown = configured(self.client.number(), EntryKind::Config, line.configuration);
+        Ok(Turn::Moves(line, Some(shown)))
+    }
 }
 
-fn is_quorum(rules: &Rules, line: &Line) -> bool
-    ensures { result ≡ is_quorum rules.now line.now }
-{
-    line.counted.count() >= rules.quorum()
-}
-
-// PAIR: the answer to READ.
-fn on_pair(
-    rules: &Rules,
-    client: Client,
-    line: &Line,
-    entry: &Entry,
-    genuine: bool,
-) -> Result<Turn, Objection>
-    ensures { result ≡ on_pair rules.now client line.now entry.now genuine }
-{
-    if !line.stage.is_reading() || entry.round != line.round {
-        return Err(Objection::NotAwaited);
-    }
-    let from = sender_within(line.configuration.set, entry.sender).ok_or(Objection::NotMember)?;
-    if line.counted.contains(from) {
-        return Err(Objection::AlreadyCounted);
-    }
-    if !genuine {
-        return Err(Objection::NotGenuine);
-    }
-    let heard = line.hearing(from, entry.pair());
-    if is_quorum(rules, &heard) {
-        closing(client, heard)
-    } else {
-        Ok(Turn::Moves(heard, None))
-    }
-}
-
-// ACK: the answer to WRITE.
-fn on_ack(rules: &Rules, line: &Line, entry: &Entry) -> Result<Turn, Objection>
-    ensures { result ≡ on_ack rules.now line.now entry.now }
-{
-    if !line.stage.is_writing() || entry.round != line.round {
-        return Err(Objection::NotAwaited);
-    }
-    let from = sender_within(line.configuration.set, entry.sender).ok_or(Objection::NotMember)?;
-    if line.counted.contains(from) {
-        return Err(Objection::AlreadyCounted);
-    }
-    let heard = line.counting(from);
-    if is_quorum(rules, &heard) {
-        Ok(Turn::Moves(heard.ended(), None))
-    } else {
-        Ok(Turn::Moves(heard, None))
-    }
-}
-
-// In a new configuration an open round begins anew: a stamped write with the same pair, all else by reading again.
-fn reopening(client: Client, line: Line) -> Result<Turn, Objection>
-    ensures { result ≡ reopening line.stage client line }
-{
-    if !line.stage.is_open() {
-        return Ok(Turn::Moves(line, None));
-    }
-    let round = line.round.checked_add(1).ok_or(Objection::TooHigh)?;
-    match line.stage {
-        Stage::Writing => with_write(client, line.opened(Stage::Writing, round, line.highest)),
-        _ => with_read(client, line.opened(Stage::Reading, round, NO_PAIR)),
-    }
-}
-
-// CONFIG: a newer configuration.
-fn on_config(client: Client, line: &Line, entry: &Entry, genuine: bool) -> Result<Turn, Objection>
-    ensures { result ≡ on_config client line.now entry.now genuine }
-{
-    if entry.epoch <= line.configuration.epoch {
-        return Err(Objection::NotNext);
-    }
-    if !genuine {
-        return Err(Objection::NotGenuine);
-    }
-    reopening(client, line.configured_as(entry.configuration()))
-}
-
-// BEHIND: a replica does not know the client's epoch yet, and is shown it.
-fn on_behind(client: Client, line: &Line, entry: &Entry) -> Result<Turn, Objection>
-    ensures { result ≡ on_behind client line.now entry.now }
-{
-    if !line.stage.is_open() || entry.round != line.round {
-        return Err(Objection::NotAwaited);
-    }
-    let shown = config_entry(client.number(), line.configuration);
-    Ok(Turn::Moves(*line, Some(shown)))
-}
-
-// What a client with this line makes of an entry; `genuine` says whether what the entry carries is genuine.
+// What a client with this line makes of an entry that was judged.
 pub fn decide(
     rules: &Rules,
     client: Client,
     line: &Line,
-    entry: &Entry,
-    genuine: bool,
+    judged: &Judged,
 ) -> Result<Turn, Objection>
-    ensures { result ≡ decided rules.now client line.now entry.now genuine }
+    ensures { result ≡ decided rules.now client line.now judged.now.entry judged.now.genuine }
 {
-    match EntryKind::try_from(entry.kind) {
-        Ok(EntryKind::Pair) => on_pair(rules, client, line, entry, genuine),
-        Ok(EntryKind::Ack) => on_ack(rules, line, entry),
-        Ok(EntryKind::Config) => on_config(client, line, entry, genuine),
-        Ok(EntryKind::Behind) => on_behind(client, line, entry),
+    let standing = Standing {
+        client,
+        line: *line,
+    };
+    match EntryKind::try_from(judged.entry.kind) {
+        Ok(EntryKind::Pair) => standing.on_pair(rules, judged),
+        Ok(EntryKind::Ack) => standing.on_ack(rules, &judged.entry),
+        Ok(EntryKind::Config) => standing.on_config(judged),
+        Ok(EntryKind::Behind) => standing.on_behind(&judged.entry),
         _ => Err(Objection::NotAwaited),
     }
 }

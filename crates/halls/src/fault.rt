@@ -49,6 +49,7 @@ pub enum HallFault {
     Step(u64, StepFault),
 }
 
+// Stays: one by one, since contracts name the error that `?` makes and a derived From says nothing of it.
 impl From<ClientFault> for StepFault {
     ghost from_gives = { λ e r. r ≡ AClient e };
 
@@ -108,36 +109,31 @@ impl Fault for StepFault {
     }
 }
 
-fn refused(number: u8, layer: Layer, place: u64) -> Refusal
-    ensures { result ≡ record { number = number; layer = layer; place = place } }
-{
-    Refusal {
-        number,
-        layer,
-        place,
-    }
-}
-
 impl Fault for HallFault {
     ghost refusal = { hall_refusal };
 
     fn told(&self) -> Refusal {
-        match *self {
-            HallFault::Limit => refused(1, Layer::Hall, 0),
-            HallFault::WrongSet => refused(2, Layer::Hall, 0),
-            HallFault::TooManyMarked(place) => refused(3, Layer::Hall, place),
-            HallFault::WrongTables => refused(4, Layer::Hall, 0),
-            HallFault::NoSuch(place) => refused(5, Layer::Hall, place),
-            HallFault::Full(place) => refused(6, Layer::Hall, place),
-            HallFault::Unfit(place) => refused(11, Layer::Hall, place),
-            HallFault::NotMarked(place) => refused(20, Layer::Hall, place),
-            HallFault::NotItsSlip(place) => refused(18, Layer::Client, place),
-            HallFault::NotNow(place) => refused(19, Layer::Client, place),
-            HallFault::Client(fault) => fault.told(),
-            HallFault::Source(fault) => fault.told(),
-            HallFault::Store(fault) => fault.told(),
-            HallFault::Kind(fault) => fault.told(),
-            HallFault::Step(place, fault) => fault.told().at(place),
+        let (number, layer, place) = match *self {
+            HallFault::Limit => (1, Layer::Hall, 0),
+            HallFault::WrongSet => (2, Layer::Hall, 0),
+            HallFault::TooManyMarked(place) => (3, Layer::Hall, place),
+            HallFault::WrongTables => (4, Layer::Hall, 0),
+            HallFault::NoSuch(place) => (5, Layer::Hall, place),
+            HallFault::Full(place) => (6, Layer::Hall, place),
+            HallFault::Unfit(place) => (11, Layer::Hall, place),
+            HallFault::NotMarked(place) => (20, Layer::Hall, place),
+            HallFault::NotItsSlip(place) => (18, Layer::Client, place),
+            HallFault::NotNow(place) => (19, Layer::Client, place),
+            HallFault::Client(fault) => return fault.told(),
+            HallFault::Source(fault) => return fault.told(),
+            HallFault::Store(fault) => return fault.told(),
+            HallFault::Kind(fault) => return fault.told(),
+            HallFault::Step(place, fault) => return fault.told().at(place),
+        };
+        Refusal {
+            number,
+            layer,
+            place,
         }
     }
 }

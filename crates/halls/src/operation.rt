@@ -3,8 +3,10 @@ use wire::Pair;
 
 #[derive(Clone, Copy, PartialEq, Eq, Debug)]
 pub struct Operation {
+    // Stays: a number, since the log is lent, and its lines hold 0 before a client has written them.
     pub client: u8,
     // whether it writes; if not, it reads
+    // Stays: a flag and no enum with values, since reads and writes keep the same ones.
     pub writes: bool,
     // the moments at which it began and ended, counted from 1; no end while it has not ended
     pub began: u32,

@@ -111,19 +111,26 @@ pub data Event {V : Type 0} (kind : Kind V) (h h' : Hall) (call : Call V) (a : A
   begins : (c : ℕ) (word : Option Word) → BeginCall kind call c word → a ≡ slip c (length h.log.list) → BegunLog h h' c word → Event kind h h' call a
   ends : (c k : ℕ) → 1 ≤ c → c ≤ h.rules.clients → begins_slip call a ≡ false → EndedLog h h' c k → Event kind h h' call a
 
-pub same_log : (h : Hall) → SameLog h h
-same_log h = record {
-  rules_same = refl;
-  marked_same = refl;
-  same_length = refl;
-  same_moment = refl;
-  client = λ k. refl;
-  writes = λ k. refl;
-  began = λ k. refl;
-  ended = λ k. refl;
-  word = λ k y. refl;
-  over = λ k o. refl;
+-- a hall with the same log
+kept_log : (h h' : Hall) → h'.rules ≡ h.rules → h'.marked ≡ h.marked → h'.log ≡ h.log → h'.moment ≡ h.moment → SameLog h h'
+kept_log h h' rules marked log moment = record {
+  rules_same = rules;
+  marked_same = marked;
+  same_length = ap (λ l. length l.list) log;
+  same_moment = moment;
+  client = λ k. ap (λ op. op.client) (at k);
+  writes = λ k. ap (λ op. op.writes) (at k);
+  began = λ k. ap (λ op. op.began) (at k);
+  ended = λ k. ap (λ op. end_of op) (at k);
+  word = λ k y. ap (λ op. op.pair.word) (at k);
+  over = λ k o. ap (λ op. op.pair) (at k);
 }
+  where
+    at : (k : ℕ) → operation_of h' k ≡ operation_of h k
+    at k = ap (λ l. get_or l.list k no_operation) log
+
+pub same_log : (h : Hall) → SameLog h h
+same_log h = kept_log h h refl refl refl refl
 
 -- a table with another at a place of it
 set_at : (xs : List Operation) (k j : ℕ) (x : Operation) → (j ≡ k → ⊥) → get_or (set xs k x) j no_operation ≡ get_or xs j no_operation
@@ -335,9 +342,9 @@ module _ {V : Type 0} (kind : Kind V) (sealed : List Text) (w : World) (holds : 
       by_saved : (s : ReplicaStepped) (o : Result (Option Entry) ReplicaFault) → by_replica o s.place s.saves number w.hall ≡ record { answer = b; hall = h' } → Event kind w.hall h' (deliver number party) b
       by_saved s (Err fault) z = stayed z
       by_saved s (Ok None) z = other_event (deliver number party) (with_store w.hall s.place s.saves) refl (became z)
-          (record { rules_same = refl; marked_same = refl; same_length = refl; same_moment = refl; client = λ k. refl; writes = λ k. refl; began = λ k. refl; ended = λ k. refl; word = λ k y. refl; over = λ k o. refl })
+          (kept_log _ _ refl refl refl refl)
       by_saved s (Ok (Some x)) z = other_event (deliver number party) (posting (with_store w.hall s.place s.saves) (Some x)) refl (became z)
-          (record { rules_same = refl; marked_same = refl; same_length = refl; same_moment = refl; client = λ k. refl; writes = λ k. refl; began = λ k. refl; ended = λ k. refl; word = λ k y. refl; over = λ k o. refl })
+          (kept_log _ _ refl refl refl refl)
 
       to_client : (client : Client) → 1 ≤ client.number → client.number ≤ w.hall.rules.clients
           → (s : ClientStepped) → client_step_of w kind.number client (entry_of w.hall number) ≡ s → client_done s number w.hall client ≡ record { answer = b; hall = h' } → Event kind w.hall h' (deliver number party) b
@@ -378,7 +385,7 @@ module _ {V : Type 0} (kind : Kind V) (sealed : List Text) (w : World) (holds : 
       (λ room y. way_in (λ i. issue_done i w.hall) (not (ltb w.hall.source.newest 4294967295)) y (λ u x. stayed x)
       (λ u x. way_in (λ s. issue_done (signing s w.hall.source set) w.hall) (eqb (w.hall.seals 0) 0) x (λ v d. stayed d)
       (λ v d. other_event (issue set) _ refl (became d)
-      (record { rules_same = refl; marked_same = refl; same_length = refl; same_moment = refl; client = λ k. refl; writes = λ k. refl; began = λ k. refl; ended = λ k. refl; word = λ k y. refl; over = λ k o. refl })))))))
+      (kept_log _ _ refl refl refl refl)))))))
       (λ t q. stayed q)
     where
       stayed : {a : Answer V} → ◌≡◌ {A = Outcome V} (record { answer = a; hall = w.hall }) (record { answer = b; hall = h' }) → Event kind w.hall h' (issue set) b
@@ -399,12 +406,12 @@ module _ {V : Type 0} (kind : Kind V) (sealed : List Text) (w : World) (holds : 
           way (not (member w.hall.marked r.number)) q (λ t s. stayed s)
           (λ t s. way (is_full w.hall.post) s (λ u z. stayed z)
           (λ u z. other_event (meddle party e) _ refl (became z)
-          (record { rules_same = refl; marked_same = refl; same_length = refl; same_moment = refl; client = λ k. refl; writes = λ k. refl; began = λ k. refl; ended = λ k. refl; word = λ k y. refl; over = λ k o. refl })))
+          (kept_log _ _ refl refl refl refl)))
 
   -- a call that changes one seat and nothing else
   seat_event : {b : Answer V} (call : Call V) (c : ℕ) (s : Seat) → begins_slip call b ≡ false → with_seat w.hall c s ≡ h' → Event kind w.hall h' call b
   seat_event call c s none e = other_event call (with_seat w.hall c s) none e
-      (record { rules_same = refl; marked_same = refl; same_length = refl; same_moment = refl; client = λ k. refl; writes = λ k. refl; began = λ k. refl; ended = λ k. refl; word = λ k y. refl; over = λ k o. refl })
+      (kept_log _ _ refl refl refl refl)
 
   call_off_event : (c k : ℕ) (b : Answer V) → call_off_called w c k ≡ record { answer = b; hall = h' } → Event kind w.hall h' (call_off c k) b
   call_off_event c k b p =

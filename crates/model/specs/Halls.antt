@@ -106,7 +106,7 @@ has_its_tables h =
 abbrev pub seat_of : Hall → ℕ → Seat
 seat_of h c = slice_index_or h.seats (c - 1) no_seat
 
--- the moment at which an operation ended, 0 while it has not
+-- the moment at which an operation ended, 0 while it has not: moments are counted from 1
 abbrev pub end_of : Operation → ℕ
 end_of op = unwrap_or op.ended 0
 

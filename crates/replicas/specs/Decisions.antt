@@ -44,16 +44,7 @@ is_member replica card = member card.set.0 replica.number
 
 -- the card with another pair
 abbrev pub holding : Card → Pair → Card
-holding card pair = record {
-  epoch = card.epoch;
-  set = card.set;
-  seal = card.seal;
-  previous = card.previous;
-  previous_seal = card.previous_seal;
-  heard = card.heard;
-  ready = card.ready;
-  pair = pair;
-}
+holding card pair = record card { pair = pair }
 
 -- the card in the next configuration: present becomes previous, nobody is heard, it is not ready, the pair is kept
 abbrev pub entering : Card → Configuration → Card
@@ -74,16 +65,7 @@ higher mine other = cond (above other.stamp mine.stamp) other mine
 
 -- the card after the pair of one more member of the previous set: 2f+1 make it ready
 abbrev pub stocked : Rules → Card → Replica → Pair → Card
-stocked rules card from pair = record {
-  epoch = card.epoch;
-  set = card.set;
-  seal = card.seal;
-  previous = card.previous;
-  previous_seal = card.previous_seal;
-  heard = record { 0 = inserted card.heard.0 from.number };
-  ready = nat_le (quorum_size rules) (count_ones (inserted card.heard.0 from.number));
-  pair = higher card.pair pair;
-}
+stocked rules card from pair = record card { heard = record { 0 = inserted card.heard.0 from.number }; ready = nat_le (quorum_size rules) (count_ones (inserted card.heard.0 from.number)); pair = higher card.pair pair }
 
 -- READ and WRITE: an earlier epoch is answered by CONFIG, a later one by BEHIND;
 -- then the replica has to be in its set, and ready

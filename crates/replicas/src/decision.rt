@@ -1,26 +1,17 @@
 // What a replica decides on an entry, as a function on values.
 ghost use Rattle.std.specs.Prelude.{◌≡◌};
 ghost use Rattle.rules.specs.Senders.{sender_within};
-ghost use Rattle.replicas.specs.Decisions.{decided, present, holding, entering, stocked, higher, party, posts, saves, on_stock_from};
+ghost use Rattle.replicas.specs.Decisions.{decided, present, holding, entering, stocked, higher, posts, saves, on_stock_from};
 
-use rules::{
-    Objection, Rules, ack_entry, behind_entry, config_entry, pair_entry, sender_within,
-    stock_entry, transfer_entry,
-};
+use rules::{Heading, Judged, Objection, Rules, configured, counted_from};
 use stores::Card;
-use wire::{Configuration, Entry, EntryKind, Pair, Replica, ReplicaSet};
+use wire::{Configuration, Entry, EntryKind, Pair, Party, Replica, ReplicaSet};
 
 // The card to save and the entry to post, if any.
 #[derive(Clone, Copy, PartialEq, Eq, Debug)]
 pub struct Decision {
     pub save: Option<Card>,
     pub post: Option<Entry>,
-}
-
-fn party(replica: Replica) -> u8
-    ensures { result ≡ party replica }
-{
-    100 + replica.number()
 }
 
 // The configuration that the replica is in.
@@ -74,7 +65,7 @@ fn stocked(rules: &Rules, card: &Card, from: Replica, pair: Pair) -> Card
     let heard = card.heard.with(from);
     Card {
         heard,
-        ready: heard.count() >= rules.quorum(),
+        ready: rules.is_quorum(heard),
         pair: higher(card.pair, pair),
         ..*card
     }
@@ -99,73 +90,65 @@ fn saves(card: Card, post: Option<Entry>) -> Result<Decision, Objection>
 }
 
 // STOCK that is awaited: once from each member of the previous set, with a genuine pair.
-fn stock_from(
-    rules: &Rules,
-    card: &Card,
-    entry: &Entry,
-    genuine: bool,
-) -> Result<Decision, Objection>
-    ensures { result ≡ on_stock_from (sender_within card.now.previous.0 entry.now.sender) rules.now card.now entry.now genuine }
+fn stock_from(rules: &Rules, card: &Card, judged: &Judged) -> Result<Decision, Objection>
+    ensures { result ≡ on_stock_from (sender_within card.now.previous.0 judged.now.entry.sender) rules.now card.now judged.now.entry judged.now.genuine }
 {
-    let from = sender_within(card.previous, entry.sender).ok_or(Objection::NotMember)?;
-    if card.heard.contains(from) {
-        return Err(Objection::AlreadyCounted);
-    }
-    if !genuine {
-        return Err(Objection::NotGenuine);
-    }
-    saves(stocked(rules, card, from, entry.pair()), None)
+    let from = counted_from(card.previous, card.heard, judged.entry.sender)?;
+    saves(stocked(rules, card, from, judged.pair()?), None)
 }
 
-// What a replica with this card makes of an entry; `genuine` says whether what the entry carries is genuine.
+// What a replica with this card makes of an entry that was judged.
 pub fn decide(
     rules: &Rules,
     replica: Replica,
     card: &Card,
-    entry: &Entry,
-    genuine: bool,
+    judged: &Judged,
 ) -> Result<Decision, Objection>
-    ensures { result ≡ decided rules.now replica card.now entry.now genuine }
+    ensures { result ≡ decided rules.now replica card.now judged.now.entry judged.now.genuine }
 {
-    let me = party(replica);
+    let Judged { entry, genuine } = *judged;
+    let me = u8::from(Party::Replica(replica));
+    let answer = Heading::answering(me, &entry);
     let is_member = card.set.contains(replica);
     let is_shown = entry.configuration().set.contains(replica);
+    // Stays: one match with guards, as the rules of the protocol are written.
     match EntryKind::try_from(entry.kind) {
         Ok(EntryKind::Read | EntryKind::Write) if entry.epoch < card.epoch => {
-            posts(config_entry(me, present(card)))
+            posts(configured(me, EntryKind::Config, present(card)))
         }
         Ok(EntryKind::Read | EntryKind::Write) if entry.epoch > card.epoch => {
-            posts(behind_entry(me, entry))
+            posts(answer.plain(EntryKind::Behind))
         }
         Ok(EntryKind::Read | EntryKind::Write) if !is_member => Err(Objection::NotMember),
         Ok(EntryKind::Read | EntryKind::Write) if !card.ready => Err(Objection::NotReady),
-        Ok(EntryKind::Read) => posts(pair_entry(me, entry, card.pair)),
+        Ok(EntryKind::Read) => posts(answer.paired(EntryKind::Pair, card.pair)),
         Ok(EntryKind::Write) if !genuine => Err(Objection::NotGenuine),
         Ok(EntryKind::Write) if entry.pair().stamp.is_above(card.pair.stamp) => saves(
             holding(card, entry.pair()),
-            Some(ack_entry(me, entry)),
+            Some(answer.plain(EntryKind::Ack)),
         ),
-        Ok(EntryKind::Write) => posts(ack_entry(me, entry)),
+        Ok(EntryKind::Write) => posts(answer.plain(EntryKind::Ack)),
         Ok(EntryKind::Config) if u64::from(entry.epoch) != u64::from(card.epoch) + 1 => {
             Err(Objection::NotNext)
         }
         Ok(EntryKind::Config) if !genuine => Err(Objection::NotGenuine),
         Ok(EntryKind::Config) if is_member && !card.ready => Err(Objection::NotReady),
-        Ok(EntryKind::Config) if is_shown => saves(
+        Ok(EntryKind::Config) => saves(
             entering(card, entry.configuration()),
-            Some(transfer_entry(me, present(card))),
+            is_shown.then_some(configured(me, EntryKind::Transfer, present(card))),
         ),
-        Ok(EntryKind::Config) => saves(entering(card, entry.configuration()), None),
         Ok(EntryKind::Transfer) if !genuine => Err(Objection::NotGenuine),
         Ok(EntryKind::Transfer) if !is_shown => Err(Objection::NotMember),
-        Ok(EntryKind::Transfer) if card.epoch <= entry.epoch => posts(behind_entry(me, entry)),
-        Ok(EntryKind::Transfer) => posts(stock_entry(me, entry, card.pair)),
+        Ok(EntryKind::Transfer) if card.epoch <= entry.epoch => {
+            posts(answer.plain(EntryKind::Behind))
+        }
+        Ok(EntryKind::Transfer) => posts(answer.paired(EntryKind::Stock, card.pair)),
         Ok(EntryKind::Stock)
             if !is_member || card.ready || u64::from(entry.epoch) + 1 != u64::from(card.epoch) => {
             Err(Objection::NotAwaited)
         }
-        Ok(EntryKind::Stock) => stock_from(rules, card, entry, genuine),
-        Ok(EntryKind::Behind) => posts(config_entry(me, present(card))),
+        Ok(EntryKind::Stock) => stock_from(rules, card, judged),
+        Ok(EntryKind::Behind) => posts(configured(me, EntryKind::Config, present(card))),
         Ok(EntryKind::Pair | EntryKind::Ack) | Err(_) => Err(Objection::NotAwaited),
     }
 }

@@ -6,7 +6,7 @@ ghost use Rattle.replicas.specs.declared.fault.ReplicaFault.TheVariants.{Store};
 use refusals::{Fault, Layer, Refusal};
 use rules::Objection;
 use stores::StoreFault;
-use wire::Replica;
+use wire::{Party, Replica};
 
 #[derive(Clone, Copy, PartialEq, Eq, Debug)]
 pub enum ReplicaFault {
@@ -16,6 +16,7 @@ pub enum ReplicaFault {
     Store(StoreFault),
 }
 
+// Stays: written out, since contracts name the error that `?` makes and a derived From says nothing of it.
 impl From<StoreFault> for ReplicaFault {
     ghost from_gives = { λ e r. r ≡ Store e };
 
@@ -30,9 +31,9 @@ impl Fault for ReplicaFault {
     fn told(&self) -> Refusal {
         match *self {
             ReplicaFault::Objects(replica, why) => Refusal {
-                number: why.number(),
+                number: u8::from(why),
                 layer: Layer::Replica,
-                place: 100 + u64::from(replica.number()),
+                place: u64::from(u8::from(Party::Replica(replica))),
             },
             ReplicaFault::Store(fault) => fault.told(),
         }

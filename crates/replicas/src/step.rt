@@ -20,14 +20,10 @@ pub fn replica_step<K: Kind, S: Store, L: Sealer>(
 ) -> Result<Option<Entry>, ReplicaFault>
     ensures { record { answer = result; place = S.Store.place store.new; saves = S.Store.saves store.new } ≡ replica_stepped rules.now K.Kind.NUMBER (L.Sealer.desk sealer.now).genuine (record { place = S.Store.place store.old; saves = S.Store.saves store.old; next = S.Store.next store.old }) replica entry.now }
 {
-    let Some(card) = store.load(replica) else {
-        return Err(ReplicaFault::Objects(replica, Objection::NotMember));
-    };
-    let genuine = rules.is_genuine::<K, L>(entry, sealer);
-    let decision = match decide(rules, replica, &card, entry, genuine) {
-        Ok(decision) => decision,
-        Err(why) => return Err(ReplicaFault::Objects(replica, why)),
-    };
+    let objects = |why| ReplicaFault::Objects(replica, why);
+    let card = store.load(replica).ok_or(objects(Objection::NotMember))?;
+    let judged = rules.judge::<K, L>(entry, sealer);
+    let decision = decide(rules, replica, &card, &judged).map_err(objects)?;
     if let Some(card) = decision.save {
         store.save(replica, card)?;
     }

@@ -2,36 +2,29 @@
 ghost use Rattle.std.specs.Prelude.{◌≡◌};
 ghost use Rattle.rules.specs.Objections.{objection_number};
 
+// Each has the number of the refusal that it stands as.
 #[derive(Clone, Copy, PartialEq, Eq, Debug)]
 pub enum Objection {
     // a round or a count would pass 4,294,967,295
-    TooHigh,
+    TooHigh = 10,
     // the pair or the configuration shown is not genuine
-    NotGenuine,
+    NotGenuine = 12,
     // the sender, or the replica itself, is not in the set
-    NotMember,
+    NotMember = 13,
     // this sender has been counted already
-    AlreadyCounted,
+    AlreadyCounted = 14,
     // nothing of this kind or round is waited for
-    NotAwaited,
+    NotAwaited = 15,
     // not the next configuration, or not a newer one
-    NotNext,
+    NotNext = 16,
     // the replica has not fetched its state yet
-    NotReady,
+    NotReady = 17,
 }
 
-impl Objection {
-    pub fn number(self) -> u8
-        ensures { result ≡ objection_number self }
-    {
-        match self {
-            Objection::TooHigh => 10,
-            Objection::NotGenuine => 12,
-            Objection::NotMember => 13,
-            Objection::AlreadyCounted => 14,
-            Objection::NotAwaited => 15,
-            Objection::NotNext => 16,
-            Objection::NotReady => 17,
-        }
+impl From<Objection> for u8 {
+    ghost from_gives = { λ why n. n ≡ objection_number why };
+
+    fn from(why: Objection) -> u8 {
+        why as u8
     }
 }

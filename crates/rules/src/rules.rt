@@ -1,10 +1,11 @@
 // The rules of a hall as a value, and what is genuine under them.
-ghost use Rattle.std.specs.Prelude.{◌≡◌};
-ghost use Rattle.rules.specs.Genuine.{quorum_size, opening_pair, first_configuration, same_pair, same_configuration, is_client, genuine_pair, genuine_configuration, genuine_entry};
+ghost use Rattle.std.specs.Prelude.{◌≡◌, count_ones, nat_le};
+ghost use Rattle.rules.specs.Genuine.{quorum_size, opening_pair, first_configuration, is_client, genuine_pair, genuine_configuration, genuine_entry};
 
+use crate::judged::Judged;
 use kinds::{Kind, Word};
 use sealers::Sealer;
-use wire::{Configuration, Entry, EntryKind, Pair, ReplicaSet, Seal, Stamp, Text};
+use wire::{Configuration, Entry, EntryKind, Pair, ReplicaSet, Text};
 
 #[derive(Clone, Copy, PartialEq, Eq, Debug)]
 pub struct Rules {
@@ -27,17 +28,20 @@ impl Rules {
         2 * u32::from(self.faults) + 1
     }
 
+    // Whether these are enough to have answered.
+    pub fn is_quorum(&self, counted: ReplicaSet) -> bool
+        ensures { result ≡ nat_le (quorum_size self.now) (count_ones counted.0) }
+    {
+        counted.count() >= self.quorum()
+    }
+
     // The pair that nobody wrote.
     pub fn opening_pair(&self) -> Pair
         ensures { result ≡ opening_pair self.now }
     {
         Pair {
-            stamp: Stamp {
-                count: 0,
-                writer: 0,
-            },
             word: self.opening,
-            seal: Seal(0),
+            ..Pair::default()
         }
     }
 
@@ -46,9 +50,8 @@ impl Rules {
         ensures { result ≡ first_configuration self.now }
     {
         Configuration {
-            epoch: 0,
             set: self.first,
-            seal: Seal(0),
+            ..Configuration::default()
         }
     }
 
@@ -56,32 +59,16 @@ impl Rules {
     pub fn has_client(&self, party: u8) -> bool
         ensures { result ≡ is_client self.now party }
     {
-        1 <= party && party <= self.clients
-    }
-
-    fn is_opening_pair(&self, pair: Pair) -> bool
-        ensures { result ≡ same_pair pair (opening_pair self.now) }
-    {
-        pair == self.opening_pair()
-    }
-
-    fn is_first_configuration(&self, configuration: Configuration) -> bool
-        ensures { result ≡ same_configuration configuration (first_configuration self.now) }
-    {
-        configuration == self.first_configuration()
+        (1..=self.clients).contains(&party)
     }
 
     // Whether it is the opening pair, or a client of the hall has sealed it.
     pub fn is_genuine_pair<K: Kind, L: Sealer>(&self, pair: Pair, sealer: &L) -> bool
         ensures { result ≡ genuine_pair self.now K.Kind.NUMBER (L.Sealer.desk sealer.now).genuine pair }
     {
-        if self.is_opening_pair(pair) {
-            return true;
-        }
-        if !self.has_client(pair.stamp.writer) {
-            return false;
-        }
-        sealer.check(Text::of_pair(K::NUMBER, pair), pair.seal)
+        pair == self.opening_pair()
+            || self.has_client(pair.stamp.writer)
+                && sealer.check(Text::of_pair(K::NUMBER, pair), pair.seal)
     }
 
     // Whether it is the first configuration, or the source has sealed it.
@@ -92,17 +79,15 @@ impl Rules {
     ) -> bool
         ensures { result ≡ genuine_configuration self.now (L.Sealer.desk sealer.now).genuine configuration }
     {
-        if self.is_first_configuration(configuration) {
-            return true;
-        }
-        sealer.check(Text::from(configuration), configuration.seal)
+        configuration == self.first_configuration()
+            || sealer.check(Text::from(configuration), configuration.seal)
     }
 
-    // Whether what the entry carries is genuine: a pair, a configuration, or nothing.
-    pub fn is_genuine<K: Kind, L: Sealer>(&self, entry: &Entry, sealer: &L) -> bool
-        ensures { result ≡ genuine_entry self.now K.Kind.NUMBER (L.Sealer.desk sealer.now).genuine entry.now }
+    // The entry, and whether what it carries is genuine: a pair, a configuration, or nothing.
+    pub fn judge<K: Kind, L: Sealer>(&self, entry: &Entry, sealer: &L) -> Judged
+        ensures { result ≡ record { entry = entry.now; genuine = genuine_entry self.now K.Kind.NUMBER (L.Sealer.desk sealer.now).genuine entry.now } }
     {
-        match EntryKind::try_from(entry.kind) {
+        let genuine = match EntryKind::try_from(entry.kind) {
             Ok(EntryKind::Write | EntryKind::Pair | EntryKind::Stock) => {
                 self.is_genuine_pair::<K, L>(entry.pair(), sealer)
             }
@@ -110,6 +95,10 @@ impl Rules {
                 self.is_genuine_configuration::<L>(entry.configuration(), sealer)
             }
             _ => true,
+        };
+        Judged {
+            entry: *entry,
+            genuine,
         }
     }
 }

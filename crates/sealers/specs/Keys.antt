@@ -29,7 +29,7 @@ abbrev pub key_seal : KeyRow → Text → Seal
 key_seal row t = record { 0 = sip_hash row.key.low row.key.high (text_bytes t) }
 
 abbrev pub spent_row : KeyRow → KeyRow
-spent_row row = record { key = row.key; left = row.left - 1 }
+spent_row row = record row { left = row.left - 1 }
 
 abbrev pub keyed_seals : Keyed → ℕ → ℕ
 keyed_seals k p = unwrap_or (option_map (λ row. row.left) (key_row k p)) 0

@@ -14,6 +14,7 @@ pub enum SourceFault {
     Sealer(SealerFault),
 }
 
+// Stays: written out, since contracts name the error that `?` makes and a derived From says nothing of it.
 impl From<SealerFault> for SourceFault {
     ghost from_gives = { λ e r. r ≡ Sealer e };
 

@@ -6,7 +6,7 @@ use crate::fault::SourceFault;
 use sealers::Sealer;
 use wire::{Configuration, ReplicaSet, Seal, Text};
 
-#[derive(Clone, Copy, PartialEq, Eq, Debug)]
+#[derive(Clone, Copy, PartialEq, Eq, Debug, Default)]
 pub struct Source {
     // the epoch of the newest configuration
     newest: u32,
@@ -17,7 +17,7 @@ impl Source {
     pub fn new() -> Source
         ensures { result.newest ≡ 0 }
     {
-        Source { newest: 0 }
+        Source::default()
     }
 
     // Seals this set for the next epoch; a refusal leaves source and sealer as they were.
