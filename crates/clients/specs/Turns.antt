@@ -33,7 +33,7 @@ moves line post = Ok (Moves line post)
 abbrev pub after : ℕ → (ℕ → Verdict) → Verdict
 after n go = cond (nat_lt n 4294967295) (go (n + 1)) (Err TooHigh)
 
--- the same number, or that there is none
+-- one more than a number of 32 bits, or that it is too high
 abbrev pub one_more : ℕ → Result ℕ Objection
 one_more n = cond (nat_lt n 4294967295) (Ok (n + 1)) (Err TooHigh)
 
