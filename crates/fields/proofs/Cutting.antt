@@ -1,18 +1,12 @@
 -- A text that is cut at its first separator loses its first part. Assumes nothing.
-use Rattle.std.proofs.Common.{◌≡◌, ℕ, suc, ◌+◌, ◌<◌, Bool, false, not, eqb, List, [], ◌∷◌, ◌++◌, length, get_or, take, drop, is_some, Some, None, Option, unwrap_or, sym, refl, ap, ◌∙◌, suc-le-suc, arith, take-append-drop, length-take-le, get_or-take, Bor}
+use Rattle.std.proofs.Common.{◌≡◌, ℕ, suc, ◌<◌, Bool, false, not, eqb, List, [], ◌∷◌, ◌++◌, length, is_some, Some, None, Option, unwrap_or, sym, refl, ap, ◌∙◌, suc-le-suc, arith, Bor}
 use Rattle.std.specs.Option.{option_map}
 use Rattle.std.specs.Str.Iter.{LacksByte}
-use Rattle.std.proofs.lemmas.List.{drop_more}
 use Rattle.std.proofs.lemmas.Bool.{eq-eqb, ne_eqb, cond-true, cond-false, cond_both, not-true, not-false, cases_eq}
-use Rattle.fields.specs.Parts.{onto, parts, lines, fields, Cut, taken}
+use Rattle.std.specs.Iterator.{MakesProgress, item_count}
+use Rattle.std.specs.Bool.{⊤}
+use Rattle.fields.specs.Parts.{onto, parts, lines, fields, Cut}
 use Rattle.fields.specs.Left.{fields_in, nothing}
-
--- the first separator stands at i
-pub cut_at : (sep : ℕ) (bs : List ℕ) (i : ℕ) → i < length bs → sep ≡ get_or bs i 0 → ((k : ℕ) → k < i → get_or bs k 0 ≡ sep → ⊥) → Cut sep bs (take i bs) (Some (drop (i + 1) bs))
-cut_at sep bs i lt e none = (
-  λ k h at. let long : length (take i bs) ≡ i = length-take-le i bs (omega arith) in let below : k < i = omega arith in none k below (sym (get_or-take i bs k 0 below) ∙ at),
-  sym (take-append-drop i bs) ∙ ap (λ l. take i bs ++ l) (drop_more bs i 0 lt ∙ ap (λ c. c ∷ drop (i + 1) bs) (sym e)),
-)
 
 onto_some : (c : ℕ) (ps : List (List ℕ)) → nothing (onto c ps) ≡ false
 onto_some c [] = refl
@@ -48,24 +42,25 @@ module _ (sep : ℕ) (end : List (List ℕ)) where
   last_part one (c ∷ []) some h = apart c [] h [] ∙ one c
   last_part one (c ∷ d ∷ cs) some h = apart c (d ∷ cs) h (d ∷ cs) ∙ ap (onto c) (last_part one (d ∷ cs) (omega arith) (later c (d ∷ cs) h))
 
-  -- the first part is taken, where the text goes on after it
-  pub first_taken : (bs p rest : List ℕ) → Cut sep bs p (Some rest) → record { got = Some p; left = parts sep end rest } ≡ taken Some (parts sep end bs)
-  first_taken bs p rest h = sym (ap (taken Some) (ap (parts sep end) h.1 ∙ first_part p rest h.0))
+  pub first_of : (bs p rest : List ℕ) → Cut sep bs p (Some rest) → parts sep end bs ≡ p ∷ parts sep end rest
+  first_of bs p rest h = ap (parts sep end) h.1 ∙ first_part p rest h.0
 
 last_field : (p : List ℕ) → LacksByte 32 p → fields p ≡ p ∷ []
 last_field [] h = refl
 last_field (c ∷ cs) h = last_part 32 ([] ∷ []) (λ _. refl) (c ∷ cs) (omega arith) h
 
-pub field_taken : (bs p : List ℕ) (rest : Option (Bor (List ℕ))) → Cut 32 bs p (option_map (λ r. r.now) rest) → record { got = Some p; left = fields_in rest } ≡ taken Some (fields bs)
-field_taken bs p None h = sym (ap (taken Some) (ap fields h.1 ∙ last_field p h.0))
-field_taken bs p (Some rest) h = first_taken 32 ([] ∷ []) bs p rest.now h
+-- the first field is what stands before the first space
+pub first_field : (bs p : List ℕ) (rest : Option (Bor (List ℕ))) → Cut 32 bs p (option_map (λ r. r.now) rest) → fields bs ≡ p ∷ fields_in rest
+first_field bs p None h = ap fields h.1 ∙ last_field p h.0
+first_field bs p (Some rest) h = first_of 32 ([] ∷ []) bs p rest.now h
 
-pub line_taken : (bs p : List ℕ) (rest : Option (Bor (List ℕ))) (r none : Bor (List ℕ)) → (length bs ≡ 0 → ⊥) → Cut 10 bs p (option_map (λ r. r.now) rest) → r ≡ unwrap_or rest none → none.now ≡ [] → record { got = Some p; left = lines r.now } ≡ taken Some (lines bs)
-line_taken bs p None r none some h is e =
-    ap (λ l. record { got = Some p; left = lines l }) (ap (λ s. s.now) is ∙ e)
-    ∙ sym (ap (taken Some) (ap lines h.1 ∙ last_part 10 [] (λ _. refl) p (omega (arith, ap length h.1, cases_eq (length bs) 0)) h.0))
-line_taken bs p (Some rest) r none some h is e = ap (λ s. record { got = Some p; left = lines s.now }) is ∙ first_taken 10 [] bs p rest.now h
+-- and the first line what stands before the first line feed
+pub first_line : (bs p : List ℕ) (rest : Option (Bor (List ℕ))) (r none : Bor (List ℕ)) → (length bs ≡ 0 → ⊥) → Cut 10 bs p (option_map (λ r. r.now) rest) → r ≡ unwrap_or rest none → none.now ≡ [] → lines bs ≡ p ∷ lines r.now
+first_line bs p None r none some h is e =
+    ap lines h.1 ∙ last_part 10 [] (λ _. refl) p (omega (arith, ap length h.1, cases_eq (length bs) 0)) h.0
+    ∙ sym (ap (λ l. p ∷ lines l) (ap (λ s. s.now) is ∙ e))
+first_line bs p (Some rest) r none some h is e = first_of 10 [] bs p rest.now h ∙ sym (ap (λ s. p ∷ lines s.now) is)
 
-pub no_line : (bs : List ℕ) → length bs ≡ 0 → record { got = None; left = lines bs } ≡ taken Some (lines bs)
-no_line [] e = refl
-no_line (c ∷ cs) e = absurd (omega arith)
+-- a cursor goes on where it gives the first of the parts that were left
+pub goes_on : {S : Type 0} (left : S → List (List ℕ)) (s t : S) (p : Bor (List ℕ)) → left s ≡ p.now ∷ left t → MakesProgress (λ _. ⊤) (item_count left) s (Some p) t
+goes_on left s t p e = record { on = λ _. (tt, tt, omega (arith, ap length e)); keeps = tt; rests = λ _. tt }

@@ -1,12 +1,9 @@
--- Digits are read from the left, and what is printed of a number is read back. Assumes nothing.
-use Rattle.std.proofs.Common.{◌≡◌, ℕ, ◌+◌, ◌-◌, ◌*◌, ◌/◌, ◌%◌, ◌^◌, ◌<◌, ◌≤◌, Bool, true, false, cond, List, [], ◌∷◌, ◌++◌, length, get_or, drop, Some, None, decimal, Option, sym, refl, ap, ◌∙◌, ⊎_elim, arith}
-use Rattle.std.proofs.lemmas.Fmt.{decimal_by_steps}
+-- Digits are read from the left. Assumes nothing.
+use Rattle.std.proofs.Common.{◌≡◌, ℕ, ◌+◌, ◌-◌, ◌*◌, ◌^◌, ◌<◌, ◌≤◌, Bool, true, false, cond, List, [], ◌∷◌, length, get_or, drop, Some, None, Option, sym, refl, ap, ◌∙◌, ⊎_elim, arith}
 use Rattle.std.proofs.lemmas.List.{at_drop_more, at_drop_all}
-use Rattle.std.proofs.lemmas.Bool.{and_from, le-leb, lt-ltb, le-ltb, cases_lt, cond-true, cond_both, cond_below}
-use Rattle.fields.specs.Numbers.{is_digit, read_on, numeral, kept, fits_u64, digit_more, number_of, NumberBack}
-
-pub some_none : {A P : Type 0} (x : A) → Some x ≡ None → P
-some_none x e = let z : ◌≡◌ {A = ℕ} 0 1 = cc in absurd (omega arith)
+use Rattle.std.proofs.lemmas.Bool.{lt-ltb, le-ltb, cases_lt, cond-true, cond_both, cond_below}
+use Rattle.std.proofs.lemmas.Option.{none-some}
+use Rattle.fields.specs.Numbers.{is_digit, read_on, kept, fits_u64, digit_more, number_of}
 
 -- a number only grows as it is read on
 too_large : (n : ℕ) (cs : List ℕ) → 2 ^ 64 ≤ n → kept fits_u64 (read_on n cs) ≡ None
@@ -15,8 +12,8 @@ too_large n (c ∷ cs) h = cond_both (is_digit c) _ _ (λ o. kept fits_u64 o ≡
 
 by_digit : (digit fits : Bool) (x v : ℕ) (cs : List ℕ) → Some v ≡ cond digit (cond fits (Some x) None) None → cond digit (read_on x cs) None ≡ read_on v cs
 by_digit true true x v cs e = cc
-by_digit true false x v cs e = some_none v e
-by_digit false fits x v cs e = some_none v e
+by_digit true false x v cs e = absurd (none-some v (sym e))
+by_digit false fits x v cs e = absurd (none-some v (sym e))
 
 -- one more digit is read
 read_more : (n c v : ℕ) (cs : List ℕ) → Some v ≡ digit_more n c → read_on n (c ∷ cs) ≡ read_on v cs
@@ -27,7 +24,7 @@ read_none : (n c : ℕ) (cs : List ℕ) → None ≡ digit_more n c → kept fit
 read_none n c cs e =
     let x = n * 10 + (c - 48) in
     cond_both (is_digit c) _ _ (λ o. kept fits_u64 o ≡ None)
-    (λ digit. ⊎_elim (λ fits. some_none x (sym (cond-true (fits_u64 x) _ _ (lt-ltb x (2 ^ 64) fits)) ∙ sym (cond-true (is_digit c) _ _ digit) ∙ sym e)) (too_large x cs) (cases_lt x (2 ^ 64)))
+    (λ digit. ⊎_elim (λ fits. absurd (none-some x (e ∙ cond-true (is_digit c) _ _ digit ∙ cond-true (fits_u64 x) _ _ (lt-ltb x (2 ^ 64) fits)))) (too_large x cs) (cases_lt x (2 ^ 64)))
     (λ _. refl)
 
 -- bs is read up to i, and n is the number so far
@@ -40,31 +37,6 @@ module _ (bs : List ℕ) (n i : ℕ) (so_far : read_on 0 bs ≡ read_on n (drop 
 
   pub ends : length bs ≤ i → n < 2 ^ 64 → Some n ≡ kept fits_u64 (read_on 0 bs)
   ends h fits = cond_below n (2 ^ 64) _ _ fits ∙ sym (ap (kept fits_u64) (so_far ∙ at_drop_all (read_on n) bs i h))
-
-module _ (c : ℕ) (is : is_digit c ≡ true) where
-  last_digit : (n k : ℕ) (cs : List ℕ) → read_on n cs ≡ Some k → read_on n (cs ++ c ∷ []) ≡ Some (k * 10 + (c - 48))
-  last_digit n k [] e = let same : n ≡ k = cc in cond-true (is_digit c) _ _ is ∙ ap (λ m. Some (m * 10 + (c - 48))) same
-  last_digit n k (d ∷ cs) e =
-      let m = n * 10 + (d - 48) in
-      elim (is_digit d) as (λ b. cond b (read_on m cs) None ≡ Some k → cond b (read_on m (cs ++ c ∷ [])) None ≡ Some (k * 10 + (c - 48)))
-      [ true ↦ last_digit m k cs | false ↦ λ no. some_none k (sym no) ] e
-
-printed_digit : (d : ℕ) → d < 10 → is_digit (48 + d) ≡ true
-printed_digit d h = and_from _ _ (le-leb 48 (48 + d) (omega arith)) (le-leb (48 + d) 57 (omega arith))
-
-one_printed : (n : ℕ) → n < 10 → numeral ((48 + n) ∷ []) ≡ Some n
-one_printed n h = cond-true (is_digit (48 + n)) _ _ (printed_digit n h) ∙ ap Some (omega arith)
-
-more_printed : (n : ℕ) (ds : List ℕ) → 10 ≤ n → numeral ds ≡ Some (n / 10) → numeral (ds ++ ((48 + n % 10) ∷ [])) ≡ Some n
-more_printed n [] h e = some_none (n / 10) (sym e)
-more_printed n (d ∷ ds) h e = last_digit (48 + n % 10) (printed_digit (n % 10) (omega arith)) 0 (n / 10) (d ∷ ds) e ∙ ap Some (omega arith)
-
--- what is printed of a number is a numeral of it
-pub printed : (n : ℕ) → n < 2 ^ 64 → numeral (decimal n) ≡ Some n
-printed = decimal_by_steps (λ n ds. numeral ds ≡ Some n) one_printed more_printed
-
-pub number_back : (bs : List ℕ) (r : Option ℕ) → r ≡ number_of bs → NumberBack bs r
-number_back bs r is n h e = is ∙ ap number_of e ∙ ap (kept fits_u64) (printed n h) ∙ cond-true (fits_u64 n) _ _ (lt-ltb n (2 ^ 64) h)
 
 pub no_digit : (bs : List ℕ) → length bs ≡ 0 → None ≡ number_of bs
 no_digit [] e = refl

@@ -1,9 +1,8 @@
--- Numbers with a sign: what fits i64 fits u64 without its sign, and what is printed of a number is read back. Assumes nothing.
-use Rattle.std.proofs.Common.{◌≡◌, ℕ, zero, suc, ◌^◌, ◌≤◌, false, eqb, List, [], ◌∷◌, get_or, drop, ℤ, pos, negsuc, neg_ℤ, Some, None, decimal, Option, sym, refl, ap, ◌∙◌, ⊎_elim, arith}
+-- Numbers with a sign: what fits i64 fits u64 without its sign. Assumes nothing.
+use Rattle.std.proofs.Common.{◌≡◌, ℕ, zero, suc, ◌^◌, ◌≤◌, false, eqb, List, get_or, drop, ℤ, pos, neg_ℤ, Some, None, Option, sym, refl, ap, ◌∙◌, ⊎_elim, arith}
 use Rattle.std.specs.Option.{option_map}
-use Rattle.std.proofs.lemmas.Bool.{eq-eqb, ne_eqb, cond-true, cond-false, lt-ltb, le-ltb, ltb-true, cases_lt}
-use Rattle.fields.specs.Numbers.{is_digit, numeral, kept, fits_u64, fits_i64, number_of, signed_of, SignedBack}
-use Rattle.fields.proofs.Reading.{some_none, printed}
+use Rattle.std.proofs.lemmas.Bool.{eq-eqb, ne_eqb, cond-true, cond-false, lt-ltb, le-ltb, cases_lt}
+use Rattle.fields.specs.Numbers.{numeral, kept, fits_u64, fits_i64, number_of, signed_of}
 
 module _ (f : ℕ → ℤ) (large : (n : ℕ) → 2 ^ 64 ≤ n → fits_i64 (f n) ≡ false) where
   fits_first : (o : Option ℕ) → kept fits_i64 (option_map f (kept fits_u64 o)) ≡ kept fits_i64 (option_map f o)
@@ -27,17 +26,3 @@ pub plain : (bs : List ℕ) (o : Option ℕ) → (get_or bs 0 0 ≡ 45 → ⊥) 
 plain bs o is e =
     ap (λ o. kept fits_i64 (option_map pos o)) e ∙ fits_first pos (λ n h. le-ltb n (2 ^ 63) (omega arith)) (numeral bs)
     ∙ sym (ap (kept fits_i64) (cond-false (eqb (get_or bs 0 0) 45) _ _ (ne_eqb _ 45 is)))
-
--- a numeral has no sign
-no_sign : (bs : List ℕ) (n : ℕ) → numeral bs ≡ Some n → get_or bs 0 0 ≡ 45 → ⊥
-no_sign [] n e is = some_none n (sym e)
-no_sign (c ∷ cs) n e is = some_none n (sym e ∙ cond-false (is_digit c) _ _ (ap is_digit is))
-
-pub signed_back : (bs : List ℕ) (r : Option ℤ) → r ≡ signed_of bs → SignedBack bs r
-signed_back bs r is (pos n) fits e =
-    let small = ltb-true n (2 ^ 63) fits in
-    let read = printed n (omega arith) in
-    is ∙ ap signed_of e ∙ ap (kept fits_i64) (cond-false (eqb (get_or (decimal n) 0 0) 45) _ _ (ne_eqb _ 45 (no_sign (decimal n) n read)) ∙ ap (option_map pos) read) ∙ cond-true (fits_i64 (pos n)) _ _ fits
-signed_back bs r is (negsuc n) fits e =
-    let small = ltb-true n (2 ^ 63) fits in
-    is ∙ ap signed_of e ∙ ap (λ o. kept fits_i64 (option_map (λ n. neg_ℤ (pos n)) o)) (printed (suc n) (omega arith)) ∙ cond-true (fits_i64 (negsuc n)) _ _ fits

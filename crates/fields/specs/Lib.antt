@@ -1,3 +1,4 @@
 pub mod Parts
 pub mod Numbers
 pub mod Left
+pub mod Printed

@@ -6,10 +6,8 @@ ghost use Rattle.fields.specs.Parts.{Cut};
 pub fn cut(bytes: &[u8], sep: u8) -> (&[u8], Option<&[u8]>)
     ensures { Cut sep bytes.now result.0.now (option_map (λ x. x.now) result.1) }
 {
-    for (i, byte) in bytes.iter().enumerate() {
-        if *byte == sep {
-            return (&bytes[0..i], Some(&bytes[i + 1..]));
-        }
+    match bytes.iter().position(|byte| *byte == sep) {
+        Some(i) => (&bytes[..i], Some(&bytes[i + 1..])),
+        None => (bytes, None),
     }
-    (bytes, None)
 }

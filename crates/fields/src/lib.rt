@@ -1,19 +1,19 @@
 // The lines of a text, the fields of a line, and the numbers in fields.
 #![tactic(auto)]
 
-ghost use Rattle.std.specs.Prelude.{◌≡◌, [], ◌∷◌, ◌++◌, Some};
-ghost use Rattle.std.specs.Option.{option_map};
+ghost use Rattle.std.specs.Prelude.{◌≡◌, [], ◌∷◌, ◌++◌};
+ghost use Rattle.std.specs.Iterator.{YieldsFirstRef, item_count};
 ghost use Rattle.fields.specs.Parts.{lines, fields, finished, taken, MakesUp};
-ghost use Rattle.fields.specs.Numbers.{number_of, signed_of};
 ghost use Rattle.fields.specs.Left.{lines_left, fields_left, nothing};
 
 mod cut;
 mod numeral;
 
 use cut::cut;
-pub use numeral::{number, signed};
+pub use numeral::Numeral;
 
-// The lines of a text, taken one by one; a line ends with a line feed or with the text.
+// The lines of a text; a line ends with a line feed or with the text.
+// Stays: a struct over the rest of the text, not the library's `split`: no struct can name the closure that `split` takes.
 #[derive(Drop)]
 pub struct Lines<'a> {
     rest: &'a [u8],
@@ -26,11 +26,16 @@ impl<'a> Lines<'a> {
     {
         Lines { rest: text }
     }
+}
 
-    // The next line, none when all are taken.
-    pub fn next(&mut self) -> Option<&'a [u8]>
-        ensures { record { got = option_map (λ x. x.now) result; left = lines_left self.new } ≡ taken Some (lines_left self.old) }
-    {
+impl<'a> Iterator for Lines<'a> {
+    type Item = &'a [u8];
+
+    ghost next_gives = { YieldsFirstRef lines_left };
+
+    ghost remaining = { item_count lines_left };
+
+    fn next(&mut self) -> Option<&'a [u8]> {
         if self.rest.is_empty() {
             return None;
         }
@@ -40,7 +45,8 @@ impl<'a> Lines<'a> {
     }
 }
 
-// The fields of a line, taken one by one; one space stands between two fields.
+// The fields of a line; one space stands between two fields.
+// Stays: a struct over the rest of the line, for the same reason as `Lines`.
 #[derive(Drop)]
 pub struct Fields<'a> {
     rest: Option<&'a [u8]>,
@@ -54,27 +60,11 @@ impl<'a> Fields<'a> {
         Fields { rest: Some(line) }
     }
 
-    // The next field, none when all are taken.
-    pub fn next(&mut self) -> Option<&'a [u8]>
-        ensures { record { got = option_map (λ x. x.now) result; left = fields_left self.new } ≡ taken Some (fields_left self.old) }
-    {
-        let (field, rest) = cut(self.rest?, b' ');
-        self.rest = rest;
-        Some(field)
-    }
-
     // Takes the next field and reads it as a number.
-    pub fn number(&mut self) -> Option<u64>
-        ensures { record { got = result; left = fields_left self.new } ≡ taken number_of (fields_left self.old) }
+    pub fn number<T: Numeral>(&mut self) -> Option<T>
+        ensures { record { got = result; left = fields_left self.new } ≡ taken T.written (fields_left self.old) }
     {
-        number(self.next()?)
-    }
-
-    // Takes the next field and reads it as a number that may have a minus sign.
-    pub fn signed(&mut self) -> Option<i64>
-        ensures { record { got = result; left = fields_left self.new } ≡ taken signed_of (fields_left self.old) }
-    {
-        signed(self.next()?)
+        T::read(self.next()?)
     }
 
     // Whether all fields are taken.
@@ -82,5 +72,19 @@ impl<'a> Fields<'a> {
         ensures { result ≡ nothing (fields_left self.now) }
     {
         self.rest.is_none()
+    }
+}
+
+impl<'a> Iterator for Fields<'a> {
+    type Item = &'a [u8];
+
+    ghost next_gives = { YieldsFirstRef fields_left };
+
+    ghost remaining = { item_count fields_left };
+
+    fn next(&mut self) -> Option<&'a [u8]> {
+        let (field, rest) = cut(self.rest?, b' ');
+        self.rest = rest;
+        Some(field)
     }
 }

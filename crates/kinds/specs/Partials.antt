@@ -1,8 +1,9 @@
 -- What `only_if` gives at each answer of its test. Assumes nothing.
-use Rattle.std.specs.Prelude.{◌≡◌, ℕ, Bool, true, false, Some, None, refl}
-use Rattle.std.proofs.Common.{ap, arith}
+use Rattle.std.specs.Prelude.{◌≡◌, Bool, true, false, Some, None, refl}
+use Rattle.std.proofs.Common.{ap}
 use Rattle.std.proofs.Math.Bool.{Bool-set}
 use Rattle.std.proofs.lemmas.Bool.{true≢false, false≢true}
+use Rattle.std.proofs.lemmas.Option.{none-some}
 use Rattle.kinds.specs.Partial.{only_if}
 
 pub only_if_true : {X : Type 0} (test : Bool) (make : test ≡ true → X) (e : test ≡ true) → only_if test make ≡ Some (make e)
@@ -15,4 +16,4 @@ only_if_false false make e = refl
 
 pub only_if_some : {X : Type 0} (test : Bool) (make : test ≡ true → X) (x : X) → only_if test make ≡ Some x → (e : test ≡ true) × (make e ≡ x)
 only_if_some true make x e = (refl, cc)
-only_if_some false make x e = absurd (let z : ◌≡◌ {A = ℕ} 0 1 = cc in omega arith)
+only_if_some false make x e = absurd (none-some x e)

@@ -15,11 +15,7 @@ impl Fault for KindFault {
 
     fn told(&self) -> Refusal {
         match self {
-            KindFault::NoValue => Refusal {
-                number: 21,
-                layer: Layer::Kind,
-                place: 0,
-            },
+            KindFault::NoValue => Refusal::new(21, Layer::Kind),
         }
     }
 }

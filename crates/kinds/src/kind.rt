@@ -14,6 +14,7 @@ pub trait Kind: Copy {
 
     ghost value: { Word → Option Self };
 
+    // Stays: methods, not `From` and `TryFrom`: clauses name a value's word and a word's value as functions, and those traits have relations.
     fn to_word(self) -> Word
         ensures { result ≡ word self };
 

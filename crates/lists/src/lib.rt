@@ -8,6 +8,7 @@ ghost use Rattle.std.specs.Option.{option_map};
 ghost use Rattle.lists.specs.Held.{held, behind, slice, after, appended, replaced};
 
 // The first `used` elements of the slice are the list, and the rest is room.
+// Stays: a slice with its used length, not a `Vec`: memory is lent by the caller.
 #[derive(Drop)]
 pub struct List<'a, T> {
     items: &'a mut [T],
@@ -28,7 +29,7 @@ impl<'a, T: Drop> List<'a, T> {
     pub fn len(&self) -> usize
         ensures { result ≡ length (held self.now) }
     {
-        // `used` is never more than the slice has; by the smaller of the two nothing rests on that.
+        // Stays: the smaller of the two, though `used` is never more: no ghost field can say so of what a `&mut` leads to.
         self.used.min(self.items.len())
     }
 
@@ -43,8 +44,7 @@ impl<'a, T: Drop> List<'a, T> {
     pub fn used(&self) -> &[T]
         ensures { result.now ≡ held self.now }
     {
-        let all = &*self.items;
-        &all[0..self.len()]
+        &self.items[..self.len()]
     }
 
     // The element at a place of the list, and none at any other place.

@@ -1,8 +1,9 @@
 -- A lot card's word gives back its tag, its reason and its day. Assumes nothing.
-use Rattle.std.specs.Prelude.{◌≡◌, ℕ, ◌+◌, ◌*◌, ◌/◌, ◌%◌, ◌<◌, cond, Some, None, Option, ◌==◌, ◌≢◌, refl}
+use Rattle.std.specs.Prelude.{◌≡◌, ℕ, ◌+◌, ◌*◌, ◌/◌, ◌%◌, ◌<◌, cond, Some, None, Option, ◌==◌, refl}
 use Rattle.std.proofs.Common.{ap, sym, subst, ◌∙◌, arith}
 use Rattle.std.specs.Option.{option_map}
 use Rattle.std.proofs.lemmas.Bool.{cond_both, ltb-true, eqb-true}
+use Rattle.std.proofs.lemmas.Option.{none-some}
 use Rattle.kinds.specs.declared.word.Word.{Word}
 use Rattle.lots.specs.declared.lot_card.Day.{Day}
 use Rattle.lots.specs.declared.lot_card.Reason.{Reason}
@@ -51,19 +52,16 @@ day_number n d e = ap (λ x. x.number) (sym (only_if_some _ _ d e).1)
 reason_code : (n : ℕ) (r : Reason) → reason_of n ≡ Some r → r.code ≡ n
 reason_code n r e = ap (λ x. x.code) (sym (only_if_some _ _ r e).1)
 
-none_some : (c : LotCard) → None ≢ Some c
-none_some c e = let z : ◌≡◌ {A = ℕ} 0 1 = cc in omega arith
-
 -- a card that has no reason
 dated_parts : (tag day : ℕ) (make : Day → LotCard) → ((d : Day) → Parts (make d) tag 0 d.number) → (c : LotCard) (o : Option Day) → day_of day ≡ o → option_map make o ≡ Some c → Parts c tag 0 day
-dated_parts tag day make parts c None o e = absurd (none_some c e)
+dated_parts tag day make parts c None o e = absurd (none-some c e)
 dated_parts tag day make parts c (Some d) o e =
     let same : make d ≡ c = cc in
     subst (λ n. Parts c tag 0 n) (day_number day d o) (subst (λ x. Parts x tag 0 d.number) same (parts d))
 
 blocked_parts : (reason day : ℕ) (c : LotCard) (p : Option Reason) (o : Option Day) → reason_of reason ≡ p → day_of day ≡ o → blocked p o ≡ Some c → Parts c 3 reason day
-blocked_parts reason day c None o p q e = absurd (none_some c e)
-blocked_parts reason day c (Some r) None p q e = absurd (none_some c e)
+blocked_parts reason day c None o p q e = absurd (none-some c e)
+blocked_parts reason day c (Some r) None p q e = absurd (none-some c e)
 blocked_parts reason day c (Some r) (Some d) p q e =
     let same : Blocked r d ≡ c = cc in
     subst (λ x. Parts x 3 reason day) same (record { tagged = refl; reasoned = reason_code reason r p; dated = day_number day d q })
@@ -76,7 +74,7 @@ module _ (tag reason day : ℕ) (c : LotCard) where
   unreasoned n o t parts =
       cond_both (reason == 0) o None (λ x. x ≡ Some c → Parts c tag reason day)
       (λ zero e. parts_at c tag n reason 0 day t (eqb-true reason 0 zero) (parts e))
-      (λ _ e. absurd (none_some c e))
+      (λ _ e. absurd (none-some c e))
 
   card_parts : card tag reason day ≡ Some c → Parts c tag reason day
   card_parts =
@@ -86,7 +84,7 @@ module _ (tag reason day : ℕ) (c : LotCard) where
       (λ two. unreasoned 2 _ (eqb-true tag 2 two) (dated_parts 2 day Released (λ d. record { tagged = refl; reasoned = refl; dated = refl }) c (day_of day) refl))
       (λ _. cond_both (tag == 3) _ _ (λ x. x ≡ Some c → Parts c tag reason day)
       (λ three e. parts_at c tag 3 reason reason day (eqb-true tag 3 three) refl (blocked_parts reason day c (reason_of reason) (day_of day) refl refl e))
-      (λ _ e. absurd (none_some c e))))
+      (λ _ e. absurd (none-some c e))))
 
 -- a word is put together again from what is read from it
 pub card_exact : (w : Word) (c : LotCard) → card_value w ≡ Some c → card_word c ≡ w

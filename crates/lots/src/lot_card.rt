@@ -3,8 +3,9 @@ ghost use Rattle.std.specs.Prelude.{◌≡◌, true, nat_lt};
 
 pub mod made;
 
-// A day by its number, at most 65,535.
-#[derive(Clone, Copy, PartialEq, Eq, Debug)]
+// A day by its number, at most 65,535; the days are in order.
+// Stays: a type beside `Reason`, not one type for both with the number's type as a parameter: no day is to be taken for a reason.
+#[derive(Clone, Copy, PartialEq, Eq, PartialOrd, Ord, Debug)]
 pub struct Day {
     number: u16,
     ghost ok: { nat_lt number 65536 ≡ true },

@@ -1,5 +1,5 @@
 -- The question that the fields of a line ask: a letter, then its numbers, and nothing else.
-use Rattle.std.specs.Prelude.{ℕ, cond, List, [], ◌∷◌, ℤ, Some, None, Option, ◌==◌}
+use Rattle.std.specs.Prelude.{ℕ, cond, List, [], ◌∷◌, Some, None, Option, ◌==◌}
 use Rattle.std.specs.Option.{option_map}
 use Rattle.fields.specs.Parts.{Taken, taken}
 use Rattle.fields.specs.Numbers.{number_of, signed_of}
@@ -24,25 +24,22 @@ then t next = onward t.got t.left next
 abbrev pub last : {A : Type 0} → A → List (List ℕ) → Option A
 last a fs = cond (nothing fs) (Some a) None
 
--- the fields are one number, two, or grams and a lot, and nothing else
-abbrev pub one_number : List (List ℕ) → Option ℕ
-one_number fs = then (taken number_of fs) last
+-- the fields are one number, or two, and nothing else; each is read as the kind of number that it has to be
+abbrev pub one_number : {A : Type 0} → (List ℕ → Option A) → List (List ℕ) → Option A
+one_number read fs = then (taken read fs) last
 
-abbrev pub two_numbers : List (List ℕ) → Option (ℕ × ℕ)
-two_numbers fs = then (taken number_of fs) (λ a fs. then (taken number_of fs) (λ b. last (a, b)))
-
-abbrev pub weight_numbers : List (List ℕ) → Option (ℤ × ℕ)
-weight_numbers fs = then (taken signed_of fs) (λ grams fs. then (taken number_of fs) (λ lot. last (grams, lot)))
+abbrev pub two_numbers : {A B : Type 0} → (List ℕ → Option A) → (List ℕ → Option B) → List (List ℕ) → Option (A × B)
+two_numbers read read' fs = then (taken read fs) (λ a fs. then (taken read' fs) (λ b. last (a, b)))
 
 -- by its letter: W 87, Q 81, R 82, B 66, V 86, D 68
 abbrev pub asked : ℕ → List (List ℕ) → Option Query
 asked letter fs =
-    cond (letter == 87) (option_map (λ p. Weight p.0 p.1) (weight_numbers fs))
-    (cond (letter == 81) (option_map Quarantined (one_number fs))
-    (cond (letter == 82) (option_map Released (one_number fs))
-    (cond (letter == 66) (option_map (λ p. Blocked p.0 p.1) (two_numbers fs))
-    (cond (letter == 86) (option_map (λ p. Value p.0 (record { 0 = p.1 })) (two_numbers fs))
-    (cond (letter == 68) (option_map (λ p. Draw (record { 0 = p.0 }) p.1) (two_numbers fs)) None)))))
+    cond (letter == 87) (option_map (λ p. Weight p.0 p.1) (two_numbers signed_of number_of fs))
+    (cond (letter == 81) (option_map Quarantined (one_number number_of fs))
+    (cond (letter == 82) (option_map Released (one_number number_of fs))
+    (cond (letter == 66) (option_map (λ p. Blocked p.0 p.1) (two_numbers number_of number_of fs))
+    (cond (letter == 86) (option_map (λ p. Value p.0 (record { 0 = p.1 })) (two_numbers number_of number_of fs))
+    (cond (letter == 68) (option_map (λ p. Draw (record { 0 = p.0 }) p.1) (two_numbers number_of number_of fs)) None)))))
 
 abbrev pub query_of : List (List ℕ) → Option Query
 query_of fs = then (taken letter_of fs) asked

@@ -27,11 +27,7 @@ impl Fault for QueryFault {
 
     fn told(&self) -> Refusal {
         match self {
-            QueryFault::Unreadable => Refusal {
-                number: 23,
-                layer: Layer::Script,
-                place: 0,
-            },
+            QueryFault::Unreadable => Refusal::new(23, Layer::Script),
             QueryFault::Kind(inner) => inner.told(),
         }
     }

@@ -2,9 +2,9 @@
 ghost use Rattle.std.specs.Prelude.{◌≡◌};
 ghost use Rattle.fields.specs.Left.{fields_left};
 ghost use Rattle.fields.specs.Parts.{fields};
-ghost use Rattle.queries.specs.Queries.{letter_of, one_number, two_numbers, weight_numbers, query_of};
+ghost use Rattle.queries.specs.Queries.{letter_of, one_number, two_numbers, query_of};
 
-use fields::Fields;
+use fields::{Fields, Numeral};
 use kinds::Word;
 
 #[derive(Clone, Copy, PartialEq, Eq, Debug)]
@@ -33,75 +33,42 @@ fn letter(field: &[u8]) -> Option<u8>
     }
 }
 
-// The fields that are left, where they are one number, two, or grams and a lot.
-fn one_number(mut rest: Fields) -> Option<u64>
-    ensures { result ≡ one_number (fields_left rest.entry) }
+// The number that is left, or the two, and nothing else.
+fn one_number<A: Numeral>(mut rest: Fields) -> Option<A>
+    ensures { result ≡ one_number A.written (fields_left rest.entry) }
 {
     let number = rest.number()?;
-    if rest.is_done() { Some(number) } else { None }
+    rest.is_done().then_some(number)
 }
 
-fn two_numbers(mut rest: Fields) -> Option<(u64, u64)>
-    ensures { result ≡ two_numbers (fields_left rest.entry) }
+fn two_numbers<A: Numeral, B: Numeral>(mut rest: Fields) -> Option<(A, B)>
+    ensures { result ≡ two_numbers A.written B.written (fields_left rest.entry) }
 {
     let first = rest.number()?;
     let second = rest.number()?;
-    if rest.is_done() {
-        Some((first, second))
-    } else {
-        None
-    }
-}
-
-fn weight_numbers(mut rest: Fields) -> Option<(i64, u64)>
-    ensures { result ≡ weight_numbers (fields_left rest.entry) }
-{
-    let grams = rest.signed()?;
-    let lot = rest.number()?;
-    if rest.is_done() {
-        Some((grams, lot))
-    } else {
-        None
-    }
+    rest.is_done().then_some((first, second))
 }
 
 impl Query {
     // The question that a line asks: its letter, then its numbers, one space before each, and nothing else.
+    // Stays: a function of bytes, not `FromStr`: a line need not be text.
     pub fn read(line: &[u8]) -> Option<Query>
         ensures { result ≡ query_of (fields line.now) }
     {
         let mut rest = Fields::new(line);
         match letter(rest.next()?)? {
-            b'W' => {
-                let (grams, lot) = weight_numbers(rest)?;
-                Some(Query::Weight { grams, lot })
-            }
-            b'Q' => {
-                let since = one_number(rest)?;
-                Some(Query::Quarantined { since })
-            }
-            b'R' => {
-                let until = one_number(rest)?;
-                Some(Query::Released { until })
-            }
-            b'B' => {
-                let (reason, since) = two_numbers(rest)?;
-                Some(Query::Blocked { reason, since })
-            }
-            b'V' => {
-                let (kind, word) = two_numbers(rest)?;
-                Some(Query::Value {
-                    kind,
-                    word: Word(word),
-                })
-            }
-            b'D' => {
-                let (word, day) = two_numbers(rest)?;
-                Some(Query::Draw {
-                    word: Word(word),
-                    day,
-                })
-            }
+            b'W' => two_numbers(rest).map(|(grams, lot)| Query::Weight { grams, lot }),
+            b'Q' => one_number(rest).map(|since| Query::Quarantined { since }),
+            b'R' => one_number(rest).map(|until| Query::Released { until }),
+            b'B' => two_numbers(rest).map(|(reason, since)| Query::Blocked { reason, since }),
+            b'V' => two_numbers(rest).map(|(kind, word)| Query::Value {
+                kind,
+                word: Word(word),
+            }),
+            b'D' => two_numbers(rest).map(|(word, day)| Query::Draw {
+                word: Word(word),
+                day,
+            }),
             _ => None,
         }
     }

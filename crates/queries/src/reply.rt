@@ -20,13 +20,14 @@ pub enum Reply {
 }
 
 // The value of this kind that has this word.
+// Stays: the kind's number, not an enum of kinds: each kind has its own number, and a word of no kind is no value.
 fn value(kind: u64, word: Word) -> Option<Reply>
     ensures { result ≡ value_of kind word }
 {
     if kind == u64::from(BinWeight::NUMBER) {
-        Some(Reply::Weighed(BinWeight::from_word(word)?))
+        BinWeight::from_word(word).map(Reply::Weighed)
     } else if kind == u64::from(LotCard::NUMBER) {
-        Some(Reply::Carded(LotCard::from_word(word)?))
+        LotCard::from_word(word).map(Reply::Carded)
     } else {
         None
     }
@@ -46,7 +47,7 @@ impl Query {
             Query::Value { kind, word } => value(kind, word).ok_or(KindFault::NoValue)?,
             Query::Draw { word, day } => {
                 let card = LotCard::from_word(word).ok_or(KindFault::NoValue)?;
-                Reply::Drawable(card.may_be_drawn(Day::new(day)?))
+                Reply::Drawable(card.may_be_drawn(Day::try_from(day)?))
             }
         };
         Ok(reply)
@@ -56,9 +57,10 @@ impl Query {
 fn verdict(may: bool) -> &'static str
     ensures { result.now ≡ verdict_text may }
 {
-    match may {
-        true => "may be drawn",
-        false => "may not be drawn",
+    if may {
+        "may be drawn"
+    } else {
+        "may not be drawn"
     }
 }
 

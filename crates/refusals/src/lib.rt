@@ -2,7 +2,7 @@
 #![tactic(auto)]
 
 ghost use Rattle.std.specs.Prelude.{◌≡◌, Some};
-ghost use Rattle.refusals.specs.Places.{moved};
+ghost use Rattle.refusals.specs.Places.{refused, moved};
 ghost use Rattle.refusals.specs.Shown.{layer_name, refusal_text};
 ghost use Rattle.refusals.specs.declared.Refusal.{Refusal};
 
@@ -54,15 +54,22 @@ pub struct Refusal {
 }
 
 impl Refusal {
+    // The refusal of this number by this layer, at no place so far.
+    pub fn new(number: u8, layer: Layer) -> Refusal
+        ensures { result ≡ refused number layer }
+    {
+        Refusal {
+            number,
+            layer,
+            place: 0,
+        }
+    }
+
     // The same refusal at this place.
     pub fn at(self, place: u64) -> Refusal
         ensures { result ≡ moved self place }
     {
-        Refusal {
-            number: self.number,
-            layer: self.layer,
-            place,
-        }
+        Refusal { place, ..self }
     }
 }
 
@@ -71,9 +78,11 @@ impl fmt::Display for Refusal {
     ghost output = { λ x. Some (refusal_text x) };
 
     fn fmt<W: fmt::Write>(&self, f: &mut fmt::Formatter<W>) -> fmt::Result {
-        let place = self.place;
-        let number = self.number;
-        let layer = self.layer;
+        let Refusal {
+            number,
+            layer,
+            place,
+        } = *self;
         write!(f, "{place} {number} {layer}")
     }
 }

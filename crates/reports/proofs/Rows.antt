@@ -1,7 +1,7 @@
 -- The rows and counts of a text, line by line: what is so far, one line more, and the end. Assumes nothing.
-use Rattle.std.proofs.Common.{◌≡◌, ℕ, ◌+◌, ◌≤◌, Bool, true, false, cond, eqb, List, [], ◌∷◌, ◌++◌, length, is_ok, Some, sym, refl, ap, ◌∙◌, subst, append_assoc, append-nil, arith}
+use Rattle.std.proofs.Common.{◌≡◌, ℕ, ◌+◌, ◌≤◌, Bool, true, false, cond, eqb, List, [], ◌∷◌, ◌++◌, length, is_ok, sym, refl, ap, ◌∙◌, subst, append_assoc, append-nil, arith}
 use Rattle.std.proofs.lemmas.Bool.{cond_both}
-use Rattle.fields.specs.Parts.{onto, lines, taken}
+use Rattle.fields.specs.Parts.{onto, lines}
 use Rattle.reports.specs.Reports.{tried, row, rows, replies, refused, totals, printed}
 
 -- out is the rows of the lines before left, of which values were answered and refusals refused
@@ -13,13 +13,9 @@ pub record Sofar (text : List ℕ) (left : List (List ℕ)) (out : List ℕ) (va
 pub none_yet : (text : List ℕ) → Sofar text (lines text) [] 0 0
 none_yet text = record { written = refl; answered = omega arith; turned = omega arith }
 
--- the line that was taken is the first of those that were left
-first_of : (ls left : List (List ℕ)) (line : List ℕ) → record { got = Some line; left = left } ≡ taken Some ls → ls ≡ line ∷ left
-first_of [] left line e = absurd (let g = ap (λ t. t.got) e in let z : ◌≡◌ {A = ℕ} 0 1 = cc in omega arith)
-first_of (l ∷ ls) left line e = let g = ap (λ t. t.got) e in let h = ap (λ t. t.left) e in cc
-
-pub at_line : {text out : List ℕ} {ls left : List (List ℕ)} {line : List ℕ} {values refusals : ℕ} → Sofar text ls out values refusals → record { got = Some line; left = left } ≡ taken Some ls → Sofar text (line ∷ left) out values refusals
-at_line {text} {out} {ls} {left} {line} {values} {refusals} h e = subst (λ x. Sofar text x out values refusals) (first_of ls left line e) h
+-- the lines that are left, as they are found to be
+pub left_as : {text out : List ℕ} {ls : List (List ℕ)} {values refusals : ℕ} (left : List (List ℕ)) → Sofar text ls out values refusals → ls ≡ left → Sofar text left out values refusals
+left_as {text} {out} {ls} {values} {refusals} left h e = subst (λ x. Sofar text x out values refusals) e h
 
 pub counted_as : {text out out' : List ℕ} {left : List (List ℕ)} {values values' refusals refusals' : ℕ} → out' ≡ out → values' ≡ values → refusals' ≡ refusals → Sofar text left out values refusals → Sofar text left out' values' refusals'
 counted_as {text} {out} {out'} {left} o v f h = subst (λ x. x) (λ i. Sofar text left (sym o i) (sym v i) (sym f i)) h
@@ -45,10 +41,11 @@ counted : (ls : List (List ℕ)) → replies ls + refused ls ≡ length ls
 counted [] = refl
 counted (l ∷ ls) = omega (arith, one (is_ok (tried l)) (replies ls) (refused ls), counted ls)
 
-module _ {text : List ℕ} {line : List ℕ} {left : List (List ℕ)} {out : List ℕ} {values refusals : ℕ} (old : Sofar text (line ∷ left) out values refusals) where
-  pub fits : values + refusals + 1 ≤ length text
-  fits = omega (arith, old.answered, old.turned, counted (line ∷ left), counted (lines text), lines_few text)
+-- no more lines are counted than there are bytes
+pub few : {text out : List ℕ} {left : List (List ℕ)} {values refusals : ℕ} → Sofar text left out values refusals → values + refusals ≤ length text
+few {text} {out} {left} h = omega (arith, h.answered, h.turned, counted left, counted (lines text), lines_few text)
 
+module _ {text : List ℕ} {line : List ℕ} {left : List (List ℕ)} {out : List ℕ} {values refusals : ℕ} (old : Sofar text (line ∷ left) out values refusals) where
   more : (n : ℕ) → n ≡ values + refusals + 1 + 1 → (out ++ row (values + refusals + 1) (tried line)) ++ rows n left ≡ rows 1 (lines text)
   more n e =
       append_assoc out (row (values + refusals + 1) (tried line)) (rows n left)

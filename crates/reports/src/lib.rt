@@ -45,10 +45,9 @@ pub fn report(heap: Global, text: &[u8]) -> Result<String, AllocError>
     let mut out = String::new(heap);
     let mut values: u64 = 0;
     let mut refusals: u64 = 0;
-    let mut lines = Lines::new(text);
-    while let Some(line) = lines.next() {
+    for (line, number) in Lines::new(text).zip(1..) {
         let answer = reply(line);
-        let row = row_of(heap, values + refusals + 1, answer)?;
+        let row = row_of(heap, number, answer)?;
         out.push_str(row.as_str())?;
         if answer.is_ok() {
             values += 1;

@@ -1,5 +1,5 @@
 // Lines, fields and numbers by example.
-use fields::{Fields, Lines, number, signed};
+use fields::{Fields, Lines, Numeral};
 use std::process::Abort;
 
 // Takes all lines of a text.
@@ -44,9 +44,12 @@ fn lines_have_fields(rt: HostRuntime) {
 
 #[test]
 fn digits_are_numbers(rt: HostRuntime) {
-    assert_eq!(rt; number(b"0"), Some(0));
-    assert_eq!(rt; number(b"007"), Some(7));
-    assert_eq!(rt; number(b"18446744073709551615"), Some(18446744073709551615));
+    assert_eq!(rt; u64::read(b"0"), Some(0));
+    assert_eq!(rt; u64::read(b"007"), Some(7));
+    assert_eq!(rt;
+        u64::read(b"18446744073709551615"),
+        Some(18446744073709551615)
+    );
     for other in [
         "",
         "-",
@@ -58,17 +61,23 @@ fn digits_are_numbers(rt: HostRuntime) {
         "18446744073709551616",
         "99999999999999999999",
     ] {
-        assert_eq!(rt; number(other.as_bytes()), None);
+        assert_eq!(rt; u64::read(other.as_bytes()), None);
     }
 }
 
 #[test]
 fn signs_are_read(rt: HostRuntime) {
-    assert_eq!(rt; signed(b"-0"), Some(0));
-    assert_eq!(rt; signed(b"-12"), Some(-12));
-    assert_eq!(rt; signed(b"007"), Some(7));
-    assert_eq!(rt; signed(b"9223372036854775807"), Some(9223372036854775807));
-    assert_eq!(rt; signed(b"-9223372036854775808"), Some(-9223372036854775808));
+    assert_eq!(rt; i64::read(b"-0"), Some(0));
+    assert_eq!(rt; i64::read(b"-12"), Some(-12));
+    assert_eq!(rt; i64::read(b"007"), Some(7));
+    assert_eq!(rt;
+        i64::read(b"9223372036854775807"),
+        Some(9223372036854775807)
+    );
+    assert_eq!(rt;
+        i64::read(b"-9223372036854775808"),
+        Some(-9223372036854775808)
+    );
     for other in [
         "",
         "-",
@@ -81,17 +90,17 @@ fn signs_are_read(rt: HostRuntime) {
         "-9223372036854775809",
         "18446744073709551616",
     ] {
-        assert_eq!(rt; signed(other.as_bytes()), None);
+        assert_eq!(rt; i64::read(other.as_bytes()), None);
     }
 }
 
 #[test]
 fn numbers_are_taken(rt: HostRuntime) {
     let mut left = Fields::new(b"7 x -8 -9");
-    assert_eq!(rt; left.number(), Some(7));
-    assert_eq!(rt; left.number(), None);
-    assert_eq!(rt; left.signed(), Some(-8));
-    assert_eq!(rt; left.number(), None);
+    assert_eq!(rt; left.number::<u64>(), Some(7));
+    assert_eq!(rt; left.number::<u64>(), None);
+    assert_eq!(rt; left.number::<i64>(), Some(-8));
+    assert_eq!(rt; left.number::<u64>(), None);
     assert!(rt; left.is_done());
-    assert_eq!(rt; left.signed(), None);
+    assert_eq!(rt; left.number::<i64>(), None);
 }

@@ -78,11 +78,11 @@ fn numbers_outside_make_no_card(rt: HostRuntime) {
         assert_eq!(rt; LotCard::quarantined(day), Err(KindFault::NoValue));
         assert_eq!(rt; LotCard::released(day), Err(KindFault::NoValue));
         assert_eq!(rt; LotCard::blocked(7, day), Err(KindFault::NoValue));
-        assert_eq!(rt; Day::new(day), Err(KindFault::NoValue));
+        assert_eq!(rt; Day::try_from(day), Err(KindFault::NoValue));
     }
     for reason in [256, u64::MAX] {
         assert_eq!(rt; LotCard::blocked(reason, 10), Err(KindFault::NoValue));
-        assert_eq!(rt; Reason::new(reason), Err(KindFault::NoValue));
+        assert_eq!(rt; Reason::try_from(reason), Err(KindFault::NoValue));
     }
 }
 
@@ -120,7 +120,7 @@ fn lots_are_drawn_before_their_day(rt: HostRuntime) -> Result<(), Fail> {
         (LotCard::blocked(7, 300)?, 299, false),
     ];
     for (card, day, may) in cases {
-        let day = Day::new(day)?;
+        let day = Day::try_from(day)?;
         assert_eq!(rt; card.may_be_drawn(day), may);
     }
     Ok(())

@@ -1,6 +1,7 @@
 // Bin weights from numbers and from words.
-ghost use Rattle.std.specs.Prelude.{◌≡◌};
-ghost use Rattle.std.proofs.Common.{sym, ap, ◌∙◌, rules, arith};
+ghost use Rattle.std.specs.Prelude.{◌≡◌, refl};
+ghost use Rattle.std.proofs.Common.{sym, ap, ◌∙◌};
+ghost use Rattle.std.proofs.lemmas.Bool.{leb-true};
 ghost use Rattle.kinds.specs.BinWeights.{weight, weight_word, weight_value};
 ghost use Rattle.kinds.specs.declared.fault.KindFault.TheVariants.{NoValue};
 ghost use Rattle.std.specs.Option.{ok_or};
@@ -22,7 +23,7 @@ impl BinWeight {
     pub fn new(grams: i64, lot: u64) -> Result<BinWeight, KindFault>
         ensures { result ≡ ok_or (weight grams lot) NoValue }
     {
-        if grams < -LARGEST || grams > LARGEST || lot >= LOTS {
+        if !(-LARGEST..=LARGEST).contains(&grams) || lot >= LOTS {
             return Err(KindFault::NoValue);
         }
         Ok(BinWeight {
@@ -41,7 +42,7 @@ impl Kind for BinWeight {
 
     ghost value = { weight_value };
 
-    ghost numbered = { first_of (Prim.search rules, Prim.grind (arith, Self.row.coded.inj)) };
+    ghost numbered = { (leb-true 1 1 refl, leb-true 1 63 refl) };
 
     ghost kept = { λ v. sym (weight_is v _ _ (sym (grams_back v.grams v.lot v.ok)) (sym (lot_back v.grams v.lot v.ok))) };
 
@@ -50,17 +51,11 @@ impl Kind for BinWeight {
         ap (λ n. record { 0 = n }) (ap (λ u. word_of u.grams u.lot) (sym same) ∙ word_back w.0) };
 
     fn to_word(self) -> Word {
-        Word((self.grams as i64 + LARGEST) as u64 * LOTS + self.lot as u64)
+        Word((i64::from(self.grams) + LARGEST) as u64 * LOTS + u64::from(self.lot))
     }
 
     fn from_word(w: Word) -> Option<BinWeight> {
-        let grams = w.0 / LOTS;
-        if grams > 2 * LARGEST as u64 {
-            return None;
-        }
-        Some(BinWeight {
-            grams: (grams as i64 - LARGEST) as i32,
-            lot: (w.0 % LOTS) as u32,
-        })
+        let grams = (w.0 / LOTS) as i64 - LARGEST;
+        BinWeight::new(grams, w.0 % LOTS).ok()
     }
 }

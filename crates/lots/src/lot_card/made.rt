@@ -1,39 +1,39 @@
 // Lot cards from numbers and from words, and the rule for drawing a lot.
-ghost use Rattle.std.specs.Prelude.{◌≡◌};
+ghost use Rattle.std.specs.Prelude.{◌≡◌, refl};
 ghost use Rattle.lots.specs.LotCards.{day_of, reason_of, quarantined_since, released_until, blocked_for, card_word, card_value, drawable};
 ghost use Rattle.kinds.specs.declared.fault.KindFault.TheVariants.{NoValue};
 ghost use Rattle.std.specs.Option.{ok_or};
 ghost use Rattle.lots.specs.CardWords.{card_kept, card_exact};
-ghost use Rattle.std.proofs.Common.{rules};
+ghost use Rattle.std.proofs.lemmas.Bool.{leb-true};
 
 use crate::lot_card::{Day, LotCard, Reason};
 use kinds::{Kind, KindFault, Word};
 
+// How many days there are, and how many reasons a word has room for.
 const DAYS: u64 = 65_536;
 
-const REASONS: u64 = 256;
+// How many words each tag has.
+const WORDS: u64 = DAYS * DAYS;
 
-impl Day {
-    pub fn new(number: u64) -> Result<Day, KindFault>
-        ensures { result ≡ ok_or (day_of number) NoValue }
-    {
-        if number >= DAYS {
-            return Err(KindFault::NoValue);
-        }
-        Ok(Day {
-            number: number as u16,
-        })
+impl TryFrom<u64> for Day {
+    type Error = KindFault;
+
+    ghost try_from_gives = { λ number result. result ≡ ok_or (day_of number) NoValue };
+
+    fn try_from(number: u64) -> Result<Day, KindFault> {
+        let number = u16::try_from(number).map_err(|_| KindFault::NoValue)?;
+        Ok(Day { number })
     }
 }
 
-impl Reason {
-    pub fn new(code: u64) -> Result<Reason, KindFault>
-        ensures { result ≡ ok_or (reason_of code) NoValue }
-    {
-        if code >= REASONS {
-            return Err(KindFault::NoValue);
-        }
-        Ok(Reason { code: code as u8 })
+impl TryFrom<u64> for Reason {
+    type Error = KindFault;
+
+    ghost try_from_gives = { λ code result. result ≡ ok_or (reason_of code) NoValue };
+
+    fn try_from(code: u64) -> Result<Reason, KindFault> {
+        let code = u8::try_from(code).map_err(|_| KindFault::NoValue)?;
+        Ok(Reason { code })
     }
 }
 
@@ -41,22 +41,22 @@ impl LotCard {
     pub fn quarantined(since: u64) -> Result<LotCard, KindFault>
         ensures { result ≡ ok_or (quarantined_since since) NoValue }
     {
-        let since = Day::new(since)?;
+        let since = Day::try_from(since)?;
         Ok(LotCard::Quarantined { since })
     }
 
     pub fn released(until: u64) -> Result<LotCard, KindFault>
         ensures { result ≡ ok_or (released_until until) NoValue }
     {
-        let until = Day::new(until)?;
+        let until = Day::try_from(until)?;
         Ok(LotCard::Released { until })
     }
 
     pub fn blocked(reason: u64, since: u64) -> Result<LotCard, KindFault>
         ensures { result ≡ ok_or (blocked_for reason since) NoValue }
     {
-        let reason = Reason::new(reason)?;
-        let since = Day::new(since)?;
+        let reason = Reason::try_from(reason)?;
+        let since = Day::try_from(since)?;
         Ok(LotCard::Blocked { reason, since })
     }
 
@@ -65,7 +65,7 @@ impl LotCard {
         ensures { result ≡ drawable self day }
     {
         match self {
-            LotCard::Released { until } => day.number < until.number,
+            LotCard::Released { until } => day < until,
             LotCard::Quarantined { .. } | LotCard::Blocked { .. } => false,
         }
     }
@@ -80,7 +80,7 @@ impl Kind for LotCard {
 
     ghost value = { card_value };
 
-    ghost numbered = { Prim.search rules };
+    ghost numbered = { (leb-true 1 2 refl, leb-true 2 63 refl) };
 
     ghost kept = { card_kept };
 
@@ -92,12 +92,12 @@ impl Kind for LotCard {
             LotCard::Released { until } => (2, 0, until),
             LotCard::Blocked { reason, since } => (3, reason.code, since),
         };
-        Word(tag * 4_294_967_296 + reason as u64 * DAYS + day.number as u64)
+        Word(tag * WORDS + u64::from(reason) * DAYS + u64::from(day.number))
     }
 
     fn from_word(w: Word) -> Option<LotCard> {
-        let tag = w.0 / 4_294_967_296;
-        let reason = w.0 / DAYS % 65_536;
+        let tag = w.0 / WORDS;
+        let reason = w.0 / DAYS % DAYS;
         let day = w.0 % DAYS;
         match tag {
             1 if reason == 0 => LotCard::quarantined(day).ok(),

@@ -1,6 +1,6 @@
 use Rattle.std.proofs.Common.{◌≡◌, ◌^◌, ◌<◌, drop}
 use Rattle.fields.specs.Numbers.{read_on}
-use Rattle.fields.proofs.numeral.read.Given as goal
+use Rattle.fields.proofs.numeral.digits_read.Given as goal
 
 -- what is left is read on from the value so far
 abbrev pub invariant-loop-byte : goal.invariant-loop-byte

@@ -1,6 +1,6 @@
 use Rattle.std.proofs.Common.{◌∙◌, rules}
 use Rattle.fields.proofs.Reading.{goes_on, stops, ends}
-use Rattle.fields.proofs.numeral.read.Goals as goal
+use Rattle.fields.proofs.numeral.digits_read.Goals as goal
 
 pub returns-in_err-value : goal.returns-in_err-value
 returns-in_err-value c =

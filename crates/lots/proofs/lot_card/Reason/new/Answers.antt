@@ -1,9 +1,0 @@
--- The reason that is made has the number given.
-use Rattle.std.proofs.Common.{ap}
-use Rattle.std.specs.Option.{ok_or}
-use Rattle.kinds.specs.declared.fault.KindFault.TheVariants.{NoValue}
-use Rattle.lots.specs.CardWords.{reason_is}
-use Rattle.lots.proofs.lot_card.Reason.new.Goals as goal
-
-pub returns : goal.returns
-returns c = ap (λ o. ok_or o NoValue) (reason_is _)
