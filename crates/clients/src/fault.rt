@@ -36,10 +36,6 @@ impl Fault for ClientFault {
             ClientFault::Objects(client, why) => (u8::from(why), client),
             ClientFault::Sealer(fault) => return fault.told(),
         };
-        Refusal {
-            number,
-            layer: Layer::Client,
-            place: u64::from(client.number()),
-        }
+        Refusal::new(number, Layer::Client).at(u64::from(client.number()))
     }
 }

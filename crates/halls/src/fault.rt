@@ -113,27 +113,22 @@ impl Fault for HallFault {
     ghost refusal = { hall_refusal };
 
     fn told(&self) -> Refusal {
-        let (number, layer, place) = match *self {
-            HallFault::Limit => (1, Layer::Hall, 0),
-            HallFault::WrongSet => (2, Layer::Hall, 0),
-            HallFault::TooManyMarked(place) => (3, Layer::Hall, place),
-            HallFault::WrongTables => (4, Layer::Hall, 0),
-            HallFault::NoSuch(place) => (5, Layer::Hall, place),
-            HallFault::Full(place) => (6, Layer::Hall, place),
-            HallFault::Unfit(place) => (11, Layer::Hall, place),
-            HallFault::NotMarked(place) => (20, Layer::Hall, place),
-            HallFault::NotItsSlip(place) => (18, Layer::Client, place),
-            HallFault::NotNow(place) => (19, Layer::Client, place),
-            HallFault::Client(fault) => return fault.told(),
-            HallFault::Source(fault) => return fault.told(),
-            HallFault::Store(fault) => return fault.told(),
-            HallFault::Kind(fault) => return fault.told(),
-            HallFault::Step(place, fault) => return fault.told().at(place),
-        };
-        Refusal {
-            number,
-            layer,
-            place,
+        match *self {
+            HallFault::Limit => Refusal::new(1, Layer::Hall),
+            HallFault::WrongSet => Refusal::new(2, Layer::Hall),
+            HallFault::TooManyMarked(place) => Refusal::new(3, Layer::Hall).at(place),
+            HallFault::WrongTables => Refusal::new(4, Layer::Hall),
+            HallFault::NoSuch(place) => Refusal::new(5, Layer::Hall).at(place),
+            HallFault::Full(place) => Refusal::new(6, Layer::Hall).at(place),
+            HallFault::Unfit(place) => Refusal::new(11, Layer::Hall).at(place),
+            HallFault::NotMarked(place) => Refusal::new(20, Layer::Hall).at(place),
+            HallFault::NotItsSlip(place) => Refusal::new(18, Layer::Client).at(place),
+            HallFault::NotNow(place) => Refusal::new(19, Layer::Client).at(place),
+            HallFault::Client(fault) => fault.told(),
+            HallFault::Source(fault) => fault.told(),
+            HallFault::Store(fault) => fault.told(),
+            HallFault::Kind(fault) => fault.told(),
+            HallFault::Step(place, fault) => fault.told().at(place),
         }
     }
 }

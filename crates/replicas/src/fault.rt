@@ -30,11 +30,10 @@ impl Fault for ReplicaFault {
 
     fn told(&self) -> Refusal {
         match *self {
-            ReplicaFault::Objects(replica, why) => Refusal {
-                number: u8::from(why),
-                layer: Layer::Replica,
-                place: u64::from(u8::from(Party::Replica(replica))),
-            },
+            ReplicaFault::Objects(replica, why) => {
+                let party = u8::from(Party::Replica(replica));
+                Refusal::new(u8::from(why), Layer::Replica).at(u64::from(party))
+            }
             ReplicaFault::Store(fault) => fault.told(),
         }
     }

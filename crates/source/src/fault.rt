@@ -28,11 +28,7 @@ impl Fault for SourceFault {
 
     fn told(&self) -> Refusal {
         match *self {
-            SourceFault::UsedUp => Refusal {
-                number: 6,
-                layer: Layer::Hall,
-                place: 0,
-            },
+            SourceFault::UsedUp => Refusal::new(6, Layer::Hall),
             SourceFault::Sealer(fault) => fault.told(),
         }
     }
