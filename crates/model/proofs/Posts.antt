@@ -9,7 +9,6 @@ use Rattle.wire.specs.declared.entry.Entry.{Entry}
 use Rattle.wire.specs.declared.pair.Seal.{Seal}
 use Rattle.wire.specs.declared.text.Text.{Text}
 use Rattle.stores.specs.declared.card.Card.{Card}
-use Rattle.stores.specs.declared.store.Saves.{Saves}
 use Rattle.stores.specs.Saved.{put}
 use Rattle.quorums.specs.Quorums.{Honest}
 use Rattle.histories.specs.Places.{done, next}
@@ -30,7 +29,7 @@ abbrev pub posted_in : World → Entry → World
 posted_in w x = record w { hall = with_post w.hall (added w.hall.post x) }
 
 -- the world with another card for replica n
-abbrev pub saved_in : World → (ℕ → Option Card) → Saves → World
+abbrev pub saved_in : World → (ℕ → Option Card) → Option ℕ → World
 saved_in w place saves = record w { hall = with_store w.hall place saves }
 
 -- elements of a list with one more behind it
@@ -182,7 +181,7 @@ post_keeps kind sealed w x holds room justified answer cards quiet = record {
     l = later_posted w x
 
 -- the world with other seats, another store, other seals left, and what is open otherwise
-abbrev pub aside : World → List Seat → (ℕ → Option Card) → Saves → (ℕ → ℕ) → ℕ → (Text → Seal) → World
+abbrev pub aside : World → List Seat → (ℕ → Option Card) → Option ℕ → (ℕ → ℕ) → ℕ → (Text → Seal) → World
 aside w seats place saves seals open_place given = record {
   hall = record w.hall { seats = seats; place = place; saves = saves; seals = seals };
   next = open_place;
@@ -190,7 +189,7 @@ aside w seats place saves seals open_place given = record {
   given = given;
 }
 
-unfoldable pub later_aside : (w : World) (seats : List Seat) (place : ℕ → Option Card) (saves : Saves) (seals : ℕ → ℕ) (open_place : ℕ) (given : Text → Seal) → Later w (aside w seats place saves seals open_place given)
+unfoldable pub later_aside : (w : World) (seats : List Seat) (place : ℕ → Option Card) (saves : Option ℕ) (seals : ℕ → ℕ) (open_place : ℕ) (given : Text → Seal) → Later w (aside w seats place saves seals open_place given)
 unfolding history
 later_aside w seats place saves seals open_place given = record {
   rules = refl;
@@ -213,7 +212,7 @@ later_aside w seats place saves seals open_place given = record {
 }
 
 -- seats, cards and seals change, each of them by its rule; nothing is posted or logged
-pub aside_keeps : (kind : ℕ) (sealed : List Text) (w : World) (seats : List Seat) (place : ℕ → Option Card) (saves : Saves) (seals : ℕ → ℕ) (open_place : ℕ) (given : Text → Seal)
+pub aside_keeps : (kind : ℕ) (sealed : List Text) (w : World) (seats : List Seat) (place : ℕ → Option Card) (saves : Option ℕ) (seals : ℕ → ℕ) (open_place : ℕ) (given : Text → Seal)
     → Holds kind sealed w → length seats ≡ length w.hall.seats
     → ((q : ℕ) → q < w.hall.rules.replicas → CardOf kind (aside w seats place saves seals open_place given) q)
     → ((c : ℕ) → 1 ≤ c → c ≤ w.hall.rules.clients → SeatRule kind (aside w seats place saves seals open_place given) c (get_or seats (c - 1) no_seat))
@@ -242,7 +241,7 @@ aside_keeps kind sealed w seats place saves seals open_place given holds same ca
     l = later_aside w seats place saves seals open_place given
 
 -- a seat that stays, of a client that keeps its seals
-pub seat_aside : (kind : ℕ) (sealed : List Text) (w : World) (seats : List Seat) (place : ℕ → Option Card) (saves : Saves) (seals : ℕ → ℕ) (open_place : ℕ) (given : Text → Seal)
+pub seat_aside : (kind : ℕ) (sealed : List Text) (w : World) (seats : List Seat) (place : ℕ → Option Card) (saves : Option ℕ) (seals : ℕ → ℕ) (open_place : ℕ) (given : Text → Seal)
     → Holds kind sealed w → (c : ℕ) → 1 ≤ c → c ≤ w.hall.rules.clients → w.hall.seals c ≤ seals c
     → SeatRule kind (aside w seats place saves seals open_place given) c (seat_of w.hall c)
 unfolding later_aside history
@@ -252,14 +251,14 @@ seat_aside kind sealed w seats place saves seals open_place given holds c low hi
     (λ k old new is. absurd (omega arith)) (λ k st is. record { logged = st.logged; writes = st.writes; stamped = st.stamped }) more s
 
 -- a card that stays
-pub card_aside : (kind : ℕ) (w : World) (seats : List Seat) (place : ℕ → Option Card) (saves : Saves) (seals : ℕ → ℕ) (open_place : ℕ) (given : Text → Seal)
+pub card_aside : (kind : ℕ) (w : World) (seats : List Seat) (place : ℕ → Option Card) (saves : Option ℕ) (seals : ℕ → ℕ) (open_place : ℕ) (given : Text → Seal)
     (q : ℕ) (card : Card) → CardRule kind w q card → CardRule kind (aside w seats place saves seals open_place given) q card
 unfolding later_aside history
 card_aside kind w seats place saves seals open_place given q card rule =
     card_later (later_aside w seats place saves seals open_place given) (λ e t s. rule.served s) (λ r a s t. rule.stocked t) rule
 
 -- one card is replaced
-pub card_keeps : (kind : ℕ) (sealed : List Text) (w : World) (q : ℕ) (card : Card) (saves : Saves) → Holds kind sealed w
+pub card_keeps : (kind : ℕ) (sealed : List Text) (w : World) (q : ℕ) (card : Card) (saves : Option ℕ) → Holds kind sealed w
     → (Honest (views w.hall) q → CardRule kind w q card) → Holds kind sealed (saved_in w (put w.hall.place q card) saves)
 card_keeps kind sealed w q card saves holds rule =
     aside_keeps kind sealed w w.hall.seats (put w.hall.place q card) saves w.hall.seals w.next w.given holds refl

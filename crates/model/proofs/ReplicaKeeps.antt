@@ -11,7 +11,6 @@ use Rattle.wire.specs.Sets.{member}
 use Rattle.wire.specs.Stamps.{above}
 use Rattle.wire.proofs.Made.{single_number}
 use Rattle.stores.specs.declared.card.Card.{Card}
-use Rattle.stores.specs.declared.store.Saves.{Saves}
 use Rattle.stores.specs.declared.fault.StoreFault.TheVariants.{NoSave}
 use Rattle.stores.specs.Saved.{after, put, none_left, one_fewer}
 use Rattle.rules.specs.Genuine.{genuine_entry, genuine_by_kind}
@@ -39,16 +38,16 @@ use Rattle.model.proofs.Stamps.{above_higher, not_above}
 use Rattle.model.proofs.Ways.{way, not_ok, ok_same, some_same, not_some, both}
 
 -- the world after a step of a replica
-abbrev pub replica_world : World → (ℕ → Option Card) → Saves → Option Entry → World
+abbrev pub replica_world : World → (ℕ → Option Card) → Option ℕ → Option Entry → World
 replica_world w place saves post = record w { hall = posting (with_store w.hall place saves) post }
 
 -- what a step without a save leaves
-record Unsaved (w : World) (said post : Option Entry) (place : ℕ → Option Card) (saves : Saves) : Type 0 where
+record Unsaved (w : World) (said post : Option Entry) (place : ℕ → Option Card) (saves : Option ℕ) : Type 0 where
   place_is : w.hall.place ≡ place
   saves_is : w.hall.saves ≡ saves
   post_is : said ≡ post
 
-unsaved : (w : World) (n : ℕ) (said post : Option Entry) (place : ℕ → Option Card) (saves : Saves)
+unsaved : (w : World) (n : ℕ) (said post : Option Entry) (place : ℕ → Option Card) (saves : Option ℕ)
     → saving None (shelf_of w) n said ≡ record { answer = Ok post; place = place; saves = saves } → Unsaved w said post place saves
 unsaved w n said post place saves e = record { place_is = ap (λ s. s.place) e; saves_is = ap (λ s. s.saves) e; post_is = ok_same (ap (λ s. s.answer) e) }
 
@@ -57,7 +56,7 @@ record DidSave (w : World) (n : ℕ) (card : Card) (said post : Option Entry) (p
   place_is : put w.hall.place n card ≡ place
   post_is : said ≡ post
 
-did_save : (w : World) (n : ℕ) (card : Card) (said post : Option Entry) (place : ℕ → Option Card) (saves : Saves)
+did_save : (w : World) (n : ℕ) (card : Card) (said post : Option Entry) (place : ℕ → Option Card) (saves : Option ℕ)
     → saving (Some card) (shelf_of w) n said ≡ record { answer = Ok post; place = place; saves = saves } → DidSave w n card said post place
 did_save w n card said post place saves e = by_room (none_left w.hall.saves) e
   where
@@ -78,7 +77,7 @@ module _ (kind : ℕ) (sealed : List Text) (w : World) (small : kind ≤ 63) (ho
     (room : is_full w.hall.post ≡ false)
     (fits : fits_replica (kind_of (entry_of w.hall n).kind) (entry_of w.hall n) replica ≡ true) where
   -- an entry is posted in its name, and no card is saved
-  posts_only : (x : Entry) (place : ℕ → Option Card) (saves : Saves) (post : Option Entry) → x.sender ≡ 100 + replica.number
+  posts_only : (x : Entry) (place : ℕ → Option Card) (saves : Option ℕ) (post : Option Entry) → x.sender ≡ 100 + replica.number
       → (Honest (views w.hall) replica.number → Owed kind w replica.number x)
       → Unsaved w (Some x) post place saves → Holds kind sealed (replica_world w place saves post)
   posts_only x place saves post by owed u =
@@ -87,7 +86,7 @@ module _ (kind : ℕ) (sealed : List Text) (w : World) (small : kind ≤ 63) (ho
       (replica_posts kind sealed w replica.number x holds room by owed))
 
   -- a card is saved
-  saves_card : (card : Card) (saves : Saves) → (Honest (views w.hall) replica.number → CardRule kind w replica.number card)
+  saves_card : (card : Card) (saves : Option ℕ) → (Honest (views w.hall) replica.number → CardRule kind w replica.number card)
       → Holds kind sealed (saved_in w (put w.hall.place replica.number card) saves)
   saves_card card saves rule = card_keeps kind sealed w replica.number card saves holds rule
 
@@ -152,7 +151,7 @@ module _ (kind : ℕ) (sealed : List Text) (w : World) (small : kind ≤ 63) (ho
   put_there : (card : Card) → put w.hall.place replica.number card replica.number ≡ Some card
   put_there card = ap (λ b. cond b (Some card) (w.hall.place replica.number)) (eq-eqb replica.number replica.number refl)
 
-  saved_rule : (card : Card) (saves : Saves) → Holds kind sealed (saved_in w (put w.hall.place replica.number card) saves)
+  saved_rule : (card : Card) (saves : Option ℕ) → Holds kind sealed (saved_in w (put w.hall.place replica.number card) saves)
       → Honest (views w.hall) replica.number → CardRule kind (saved_in w (put w.hall.place replica.number card) saves) replica.number card
   saved_rule card saves holds1 honest =
       let c = holds1.cards replica.number inside in
@@ -160,7 +159,7 @@ module _ (kind : ℕ) (sealed : List Text) (w : World) (small : kind ≤ 63) (ho
       (some_same (sym c.kept ∙ put_there card)) (c.rule honest)
 
   -- a card is saved and an entry is posted
-  saves_and_posts : (card : Card) (x : Entry) (place : ℕ → Option Card) (saves : Saves) (post : Option Entry) → x.sender ≡ 100 + replica.number
+  saves_and_posts : (card : Card) (x : Entry) (place : ℕ → Option Card) (saves : Option ℕ) (post : Option Entry) → x.sender ≡ 100 + replica.number
       → DidSave w replica.number card (Some x) post place
       → (Honest (views w.hall) replica.number → CardRule kind w replica.number card)
       → (Holds kind sealed (saved_in w (put w.hall.place replica.number card) saves) → Honest (views w.hall) replica.number
@@ -172,7 +171,7 @@ module _ (kind : ℕ) (sealed : List Text) (w : World) (small : kind ≤ 63) (ho
       (subst (λ pl. Holds kind sealed (replica_world w pl saves (Some x))) did.place_is
       (replica_posts kind sealed (saved_in w (put w.hall.place replica.number card) saves) replica.number x holds1 room by (owed holds1)))
 
-  saves_only : (card : Card) (place : ℕ → Option Card) (saves : Saves) (post : Option Entry)
+  saves_only : (card : Card) (place : ℕ → Option Card) (saves : Option ℕ) (post : Option Entry)
       → DidSave w replica.number card None post place
       → (Honest (views w.hall) replica.number → CardRule kind w replica.number card)
       → Holds kind sealed (replica_world w place saves post)
@@ -238,13 +237,13 @@ module _ (kind : ℕ) (sealed : List Text) (w : World) (small : kind ≤ 63) (ho
       genuine_higher true = genuine_at 6 k h.checks
       genuine_higher false = (mine.rule honest).genuine
 
-  record Moved (place : ℕ → Option Card) (saves : Saves) (post : Option Entry) (d : Decision) : Type 0 where
+  record Moved (place : ℕ → Option Card) (saves : Option ℕ) (post : Option Entry) (d : Decision) : Type 0 where
     done : saving d.save (shelf_of w) replica.number d.post ≡ record { answer = Ok post; place = place; saves = saves }
 
-  moved_as : (place : ℕ → Option Card) (saves : Saves) (post : Option Entry) (d d' : Decision) → d ≡ d' → Moved place saves post d → Moved place saves post d'
+  moved_as : (place : ℕ → Option Card) (saves : Option ℕ) (post : Option Entry) (d d' : Decision) → d ≡ d' → Moved place saves post d → Moved place saves post d'
   moved_as place saves post d d' is m = subst (λ z. Moved place saves post z) is m
 
-  by_move : (place : ℕ → Option Card) (saves : Saves) (post : Option Entry) (d : Decision) → Moved place saves post d
+  by_move : (place : ℕ → Option Card) (saves : Option ℕ) (post : Option Entry) (d : Decision) → Moved place saves post d
       → ReplicaMove w.hall.rules replica mine.card (entry_of w.hall n) checks d → Holds kind sealed (replica_world w place saves post)
   unfolding checks history mine
   by_move place saves post d m (talks t) =
@@ -291,7 +290,7 @@ module _ (kind : ℕ) (sealed : List Text) (w : World) (small : kind ≤ 63) (ho
       (λ honest. hears_rule k from h honest)
 
   -- whatever a replica does with the entry keeps the rules
-  pub replica_keeps : (place : ℕ → Option Card) (saves : Saves) (post : Option Entry)
+  pub replica_keeps : (place : ℕ → Option Card) (saves : Option ℕ) (post : Option Entry)
       → replica_step_of w kind replica (entry_of w.hall n) ≡ record { answer = Ok post; place = place; saves = saves }
       → Holds kind sealed (replica_world w place saves post)
   unfolding checks

@@ -8,7 +8,6 @@ use Rattle.wire.specs.declared.party.Party.TheVariants.{Source as TheSource, Cli
 use Rattle.wire.specs.Entries.{kind_of}
 use Rattle.wire.specs.Parties.{Client, Replica}
 use Rattle.stores.specs.declared.card.Card.{Card}
-use Rattle.stores.specs.declared.store.Saves.{Saves}
 use Rattle.clients.specs.declared.fault.ClientFault.{ClientFault}
 use Rattle.clients.specs.declared.line.Line.{Line}
 use Rattle.clients.specs.declared.line.Stage.{Stage}
@@ -116,7 +115,7 @@ by_client (Ok post) line seals number h client =
 abbrev pub client_done : {V : Type 0} → ClientStepped → ℕ → Hall → Client → Outcome V
 client_done s number h client = by_client s.answer s.line s.seals number h client
 
-abbrev pub by_replica : {V : Type 0} → Result (Option Entry) ReplicaFault → (ℕ → Option Card) → Saves → ℕ → Hall → Outcome V
+abbrev pub by_replica : {V : Type 0} → Result (Option Entry) ReplicaFault → (ℕ → Option Card) → Option ℕ → ℕ → Hall → Outcome V
 by_replica (Err fault) place saves number h = refuses (Step number (ByReplica fault)) h
 by_replica (Ok post) place saves number h = answers done (posting (with_store h place saves) post)
 

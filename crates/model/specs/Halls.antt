@@ -9,7 +9,6 @@ use Rattle.wire.specs.declared.party.Party.TheVariants.{Source as TheSource, Cli
 use Rattle.wire.specs.declared.text.Text.{Text}
 use Rattle.wire.specs.Parties.{party_of}
 use Rattle.stores.specs.declared.card.Card.{Card}
-use Rattle.stores.specs.declared.store.Saves.{Saves}
 use Rattle.sealers.specs.Sealing.{Desk}
 use Rattle.rules.specs.declared.rules.Rules.{Rules}
 use Rattle.clients.specs.declared.line.Stage.TheVariants.{Idle}
@@ -39,7 +38,7 @@ pub record Hall : Type 0 where
   pub roll : Table Configuration
   pub seats : List Seat
   pub place : ℕ → Option Card
-  pub saves : Saves
+  pub saves : Option ℕ
   pub seals : ℕ → ℕ
 
 -- the hall, and what its store and its sealer leave open: the place that a refused save names,
@@ -140,7 +139,7 @@ abbrev pub with_seals : Hall → (ℕ → ℕ) → Hall
 with_seals h seals = record h { seals = seals }
 
 -- the hall with another store
-abbrev pub with_store : Hall → (ℕ → Option Card) → Saves → Hall
+abbrev pub with_store : Hall → (ℕ → Option Card) → Option ℕ → Hall
 with_store h place saves = record h { place = place; saves = saves }
 
 -- the hall with another source and roll

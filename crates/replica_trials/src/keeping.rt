@@ -7,7 +7,7 @@ use kinds::Word;
 use refusals::{Fault, Layer, Refusal};
 use std::process::Abort;
 use std::test::Fail;
-use stores::{Cabinet, Card, Saves, Store, StoreFault};
+use stores::{Cabinet, Card, Store, StoreFault};
 use tapes::Tape;
 use wire::{Pair, Replica, ReplicaSet, Seal, Stamp, UnknownParty};
 
@@ -76,7 +76,7 @@ fn keeps_cards<S: Store>(rt: &impl Abort, store: &mut S, first: Replica, last: R
 fn a_cabinet_keeps_cards(rt: HostRuntime) -> Result<(), Fail> {
     let mut cabinet = Cabinet::new();
     keeps_cards(&rt, &mut cabinet, replica(0)?, replica(63)?);
-    assert_eq!(rt; cabinet.left(), Saves::Endless);
+    assert_eq!(rt; cabinet.left(), None);
     Ok(())
 }
 
@@ -85,9 +85,9 @@ fn a_tape_keeps_cards_until_it_is_full(rt: HostRuntime) -> Result<(), Fail> {
     let first = replica(0)?;
     let mut bytes = [170; 220];
     let mut tape = Tape::open(&mut bytes, 0)?;
-    assert_eq!(rt; tape.left(), Saves::Only(3));
+    assert_eq!(rt; tape.left(), Some(3));
     keeps_cards(&rt, &mut tape, first, replica(63)?);
-    assert_eq!(rt; tape.left(), Saves::Only(0));
+    assert_eq!(rt; tape.left(), Some(0));
     assert_eq!(rt; tape.save(first, card(4, true)), Err(StoreFault::NoSave(3)));
     assert_eq!(rt; tape.load(first), Some(card(3, false)), "as it was");
     assert_eq!(rt;

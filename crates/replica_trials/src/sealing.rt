@@ -72,11 +72,7 @@ fn keys(heap: Global, rows: u8, left: u32) -> Result<Vec<KeyRow>, AllocError> {
         low: 0x0706_0504_0302_0100,
         high: 0x0f0e_0d0c_0b0a_0908,
     };
-    let mut all = Vec::new(heap);
-    for _ in 0..rows {
-        all.push(KeyRow { key, left })?;
-    }
-    Ok(all)
+    vec![in heap; KeyRow { key, left }; usize::from(rows)]
 }
 
 #[test]

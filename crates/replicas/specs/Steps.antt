@@ -6,7 +6,6 @@ use Rattle.wire.specs.declared.text.Text.{Text}
 use Rattle.wire.specs.Parties.{Replica}
 use Rattle.stores.specs.declared.card.Card.{Card}
 use Rattle.stores.specs.declared.fault.StoreFault.{StoreFault}
-use Rattle.stores.specs.declared.store.Saves.{Saves}
 use Rattle.stores.specs.Saved.{Saved, saved}
 use Rattle.rules.specs.declared.objection.Objection.TheVariants.{NotMember}
 use Rattle.rules.specs.declared.rules.Rules.{Rules}
@@ -18,14 +17,14 @@ use Rattle.replicas.specs.Decisions.{Verdict, decided}
 -- the meaning of a store: a card or none for each replica number, the saves left, the place that a refused save names
 pub record Shelf : Type 0 where
   pub place : ℕ → Option Card
-  pub saves : Saves
+  pub saves : Option ℕ
   pub next : ℕ
 
 -- what a step answers and leaves in the store
 pub record Stepped : Type 0 where
   pub answer : Result (Option Entry) ReplicaFault
   pub place : ℕ → Option Card
-  pub saves : Saves
+  pub saves : Option ℕ
 
 -- the store stays as it was
 abbrev pub unmoved : Shelf → Result (Option Entry) ReplicaFault → Stepped

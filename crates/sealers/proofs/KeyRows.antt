@@ -1,9 +1,9 @@
 -- A party's row of keys is spent: one seal fewer for that party, and the same seals genuine. Assumes nothing.
-use Rattle.std.proofs.Common.{◌≡◌, ℕ, zero, suc, ◌-◌, ◌<◌, true, false, eqb, List, [], ◌∷◌, length, get_or, set, Some, None, Ok, vec_items, vec_len, Option, unwrap_or, sym, refl, ap, ◌∙◌, subst, ⊎_elim, arith}
+use Rattle.std.proofs.Common.{◌≡◌, ℕ, zero, suc, ◌-◌, true, false, eqb, List, [], ◌∷◌, length, get_or, set, Some, None, Ok, vec_items, vec_len, Option, unwrap_or, sym, refl, ap, ◌∙◌, subst, ⊎_elim, arith}
 use Rattle.std.specs.List.{slice_get}
 use Rattle.std.specs.Option.{option_map}
-use Rattle.std.proofs.lemmas.Option.{slice_get_past, slice_get_read}
-use Rattle.std.proofs.lemmas.Bool.{cases_eq, cases_lt, cond-true, cond-false, eq-eqb, ne_eqb}
+use Rattle.std.proofs.lemmas.Option.{slice_get_read, slice_get_within}
+use Rattle.std.proofs.lemmas.Bool.{cases_eq, cond-true, cond-false, eq-eqb, ne_eqb}
 use Rattle.std.proofs.lemmas.Bool.Decides.{nat_tests}
 use Rattle.wire.specs.declared.pair.Seal.{Seal}
 use Rattle.wire.specs.declared.text.Text.{Text}
@@ -23,9 +23,6 @@ nth_set_other (x ∷ xs) zero zero new ne = absurd (ne refl)
 nth_set_other (x ∷ xs) zero (suc j) new ne = refl
 nth_set_other (x ∷ xs) (suc i) zero new ne = refl
 nth_set_other (x ∷ xs) (suc i) (suc j) new ne = nth_set_other xs i j new (λ e. ne (ap suc e))
-
-pub nth_within : (rows : List KeyRow) (i : ℕ) (row : KeyRow) → slice_get rows i ≡ Some row → i < length rows
-nth_within rows i row e = ⊎_elim (λ lt. lt) (λ past. let n = slice_get_past rows i past in absurd (let z : ◌≡◌ {A = ℕ} 0 1 = cc in omega arith)) (cases_lt i (length rows))
 
 -- two parties have two places
 place_own : (p q i : ℕ) → key_place p ≡ Some i → key_place q ≡ Some i → p ≡ q
@@ -90,6 +87,6 @@ module _ {k k' : Keyed} {party : ℕ} {row : KeyRow} (w : Spent k k' party row) 
 pub spent_if : (k k' : Keyed) (party place : ℕ) (row lent : KeyRow) → key_place party ≡ Some place → key_row k party ≡ Some row → vec_len k.rows ≡ length (vec_items k.rows) → lent ≡ get_or (vec_items k.rows) place lent → vec_items k'.rows ≡ set (vec_items k.rows) place (spent_row lent) → Spent k k' party row
 spent_if k k' party place row lent there has long read rows =
     let held : slice_get (vec_items k.rows) place ≡ Some row = sym (ap (row_at (vec_items k.rows)) there) ∙ has in
-    let same : slice_get (vec_items k.rows) place ≡ Some lent = slice_get_read (vec_items k.rows) (length (vec_items k.rows)) place lent refl (nth_within (vec_items k.rows) place row held) read in
+    let same : slice_get (vec_items k.rows) place ≡ Some lent = slice_get_read (vec_items k.rows) (length (vec_items k.rows)) place lent refl (slice_get_within (vec_items k.rows) place row held) read in
     let one : lent ≡ row = cc in
     record { place = place; there = there; held = held; rows = rows ∙ ap (λ x. set (vec_items k.rows) place (spent_row x)) one }

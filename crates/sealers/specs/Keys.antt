@@ -1,6 +1,6 @@
 -- The keyed sealer: whose key is where, what it makes genuine, and how many seals are left.
 use Rattle.std.specs.Prelude.{◌≡◌, ℕ, ◌-◌, ◌≤◌, Bool, false, cond, ◌&&◌, List, length, Some, None, Ok, Err, vec_items, Option, Result, nat_eq, nat_le}
-use Rattle.std.specs.List.{slice_get, AllByRecursion}
+use Rattle.std.specs.List.{All, slice_get}
 use Rattle.std.specs.Option.{option_map, unwrap_or}
 use Rattle.siphash.specs.Sip.{sip_hash}
 use Rattle.wire.specs.declared.pair.Seal.{Seal}
@@ -46,7 +46,7 @@ keyed_desk k = record { genuine = keyed_genuine k; seals = keyed_seals k; given 
 
 -- 97 rows, none with more than 1,000,000 seals
 abbrev pub AllWithin : List KeyRow → Type 0
-AllWithin rows = AllByRecursion (λ row. row.left ≤ 1000000) rows
+AllWithin rows = All (λ row. row.left ≤ 1000000) rows
 
 abbrev pub KeysFit : List KeyRow → Type 0
 KeysFit rows = (length rows ≡ 97) × AllWithin rows

@@ -1,4 +1,5 @@
 pub mod Books
 pub mod Faults
 pub mod Keys
+pub mod Lending
 pub mod Sealing

@@ -10,6 +10,7 @@ use wire::{Party, Seal, Text};
 const PARTIES: usize = 164;
 
 // The rows from party × share on are that party's, one for each seal; the first of them are used.
+// Stays: the caller lends the rows, so a party's are a run of them with a count beside it in place of a `Vec`.
 #[derive(Drop)]
 pub struct Book<'a> {
     rows: &'a mut [Text],
@@ -22,7 +23,7 @@ impl<'a> Book<'a> {
     pub fn open(rows: &'a mut [Text], share: u16) -> Result<Book<'a>, SealerFault>
         ensures { Opened rows.old share result }
     {
-        if share < 1 || share > 256 || rows.len() != PARTIES * share as usize {
+        if !(1..=256).contains(&share) || rows.len() != PARTIES * share as usize {
             return Err(SealerFault::Limit);
         }
         Ok(Book {
@@ -67,9 +68,9 @@ impl Sealer for Book<'_> {
         if Party::try_from(u64::from(text.party)).is_err() {
             return false;
         }
-        let first = text.party as u64 * self.share as u64;
+        let first = u64::from(text.party) * u64::from(self.share);
         let used = (self.next_row(text.party) as u64).min(self.rows.len() as u64);
-        if seal.0 < first || seal.0 >= used {
+        if !(first..used).contains(&seal.0) {
             return false;
         }
         let held = self.rows[seal.0 as usize];

@@ -17,16 +17,8 @@ impl Fault for SealerFault {
 
     fn told(&self) -> Refusal {
         match *self {
-            SealerFault::NoSeal(party) => Refusal {
-                number: 8,
-                layer: Layer::Sealer,
-                place: u64::from(party),
-            },
-            SealerFault::Limit => Refusal {
-                number: 1,
-                layer: Layer::Hall,
-                place: 0,
-            },
+            SealerFault::NoSeal(party) => { Refusal::new(8, Layer::Sealer).at(u64::from(party)) }
+            SealerFault::Limit => Refusal::new(1, Layer::Hall),
         }
     }
 }

@@ -1,10 +1,8 @@
 // The keyed sealer: a key for each party, and SipHash-2-4 of the text as its seal.
-ghost use Rattle.std.specs.Borrow.{sem, follows};
-ghost use Rattle.std.specs.Prelude.{◌≡◌, ◌-◌, ◌<◌, vec_len, Decides, slice_index_or};
-ghost use Rattle.std.specs.Vec.{with_item};
+ghost use Rattle.std.specs.Borrow.{sem};
+ghost use Rattle.std.specs.Prelude.{◌≡◌, ◌<◌, ◌↔◌, vec_len, IsTrue, slice_index_or};
 ghost use Rattle.sealers.specs.Keys.{key_place, key_row, key_seal, keyed_desk, spent_row, AllWithin, KeyedOpened};
-ghost use Rattle.sealers.specs.contracts.keyed.Keyed.{the_row as keyed_type};
-ghost use Rattle.sealers.specs.contracts.keyed.KeyRow.{the_row as row_type};
+ghost use Rattle.sealers.specs.Lending.{LendsRow};
 
 use crate::fault::SealerFault;
 use crate::sealer::Sealer;
@@ -56,14 +54,9 @@ fn place(party: u8) -> Option<usize>
 
 // Whether no row has more than 1,000,000 seals.
 fn all_within(rows: &[KeyRow]) -> bool
-    ensures { Decides result (AllWithin rows.now) }
+    ensures { IsTrue result ↔ AllWithin rows.now }
 {
-    for row in rows {
-        if row.left > 1_000_000 {
-            return false;
-        }
-    }
-    true
+    rows.iter().all(|row| row.left <= 1_000_000)
 }
 
 impl Keyed {
@@ -71,7 +64,7 @@ impl Keyed {
     pub fn open(rows: Vec<KeyRow>) -> Result<Keyed, SealerFault>
         ensures { KeyedOpened rows.items result }
     {
-        if rows.len() != PARTIES || !all_within(rows.as_slice()) {
+        if rows.len() != PARTIES || !all_within(&rows) {
             return Err(SealerFault::Limit);
         }
         Ok(Keyed { rows })
@@ -81,18 +74,14 @@ impl Keyed {
     fn row_of(&self, party: u8) -> Option<KeyRow>
         ensures { result ≡ key_row self.now party }
     {
-        let place = place(party)?;
-        if place >= self.rows.len() {
-            return None;
-        }
-        Some(self.rows[place])
+        self.rows.get(place(party)?).copied()
     }
 
     // The row at this place, to be changed.
     fn row(&mut self, place: usize) -> &mut KeyRow
         requires { place < vec_len self.old.rows }
         ensures value { result.now ≡ slice_index_or self.old.rows.items place result.now }
-        ensures* follows { sem 𝓛 (follows keyed_type row_type self.entry.ghost_name result.ghost_name (λ w. record { rows = with_item self.old.rows place w })) }
+        ensures* writes_back { sem 𝓛 (LendsRow self.entry place result) }
     {
         &mut self.rows[place]
     }
@@ -102,30 +91,22 @@ impl Sealer for Keyed {
     ghost desk = { keyed_desk };
 
     fn seal(&mut self, text: Text) -> Result<Seal, SealerFault> {
-        let Some(row) = self.row_of(text.party) else {
-            return Err(SealerFault::NoSeal(text.party));
-        };
-        let Some(place) = place(text.party) else {
-            return Err(SealerFault::NoSeal(text.party));
-        };
+        let none = SealerFault::NoSeal(text.party);
+        let row = self.row_of(text.party).ok_or(none)?;
+        let place = place(text.party).ok_or(none)?;
         if row.left == 0 {
-            return Err(SealerFault::NoSeal(text.party));
+            return Err(none);
         }
         self.row(place).spend();
         Ok(row.seal_of(text))
     }
 
     fn check(&self, text: Text, seal: Seal) -> bool {
-        match self.row_of(text.party) {
-            Some(row) => row.seal_of(text).0 == seal.0,
-            None => false,
-        }
+        self.row_of(text.party)
+            .is_some_and(|row| row.seal_of(text).0 == seal.0)
     }
 
     fn left(&self, party: u8) -> u64 {
-        match self.row_of(party) {
-            Some(row) => u64::from(row.left),
-            None => 0,
-        }
+        self.row_of(party).map_or(0, |row| u64::from(row.left))
     }
 }

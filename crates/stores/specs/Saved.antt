@@ -1,33 +1,31 @@
 -- What a save answers, and what it makes of a store's cards and of the saves that are left.
-use Rattle.std.specs.Prelude.{ℕ, ◌-◌, Bool, false, cond, Some, Ok, Err, Option, Result, ◌==◌}
+use Rattle.std.specs.Prelude.{ℕ, ◌-◌, Bool, false, cond, Some, None, Ok, Err, Option, Result, ◌==◌}
 use Rattle.stores.specs.declared.card.Card.{Card}
 use Rattle.stores.specs.declared.fault.StoreFault.{StoreFault}
 use Rattle.stores.specs.declared.fault.StoreFault.TheVariants.{NoSave}
-use Rattle.stores.specs.declared.store.Saves.{Saves}
-use Rattle.stores.specs.declared.store.Saves.TheVariants.{Endless, Only}
 
--- what a save answers and leaves: the card of each replica number, and the saves
+-- what a save answers and leaves: the card of each replica number, and the saves (None: without end)
 pub record Saved : Type 0 where
   pub answer : Result (Unit {0}) StoreFault
   pub place : ℕ → Option Card
-  pub saves : Saves
+  pub saves : Option ℕ
 
-abbrev pub after : Result (Unit {0}) StoreFault → (ℕ → Option Card) → Saves → Saved
+abbrev pub after : Result (Unit {0}) StoreFault → (ℕ → Option Card) → Option ℕ → Saved
 after answer place saves = record { answer = answer; place = place; saves = saves }
 
 -- the card at this number, and every other number as it was
 abbrev pub put : (ℕ → Option Card) → ℕ → Card → ℕ → Option Card
 put place n card m = cond (m == n) (Some card) (place m)
 
-abbrev pub none_left : Saves → Bool
-none_left Endless = false
-none_left (Only k) = k == 0
+abbrev pub none_left : Option ℕ → Bool
+none_left None = false
+none_left (Some k) = k == 0
 
-abbrev pub one_fewer : Saves → Saves
-one_fewer Endless = Endless
-one_fewer (Only k) = Only (k - 1)
+abbrev pub one_fewer : Option ℕ → Option ℕ
+one_fewer None = None
+one_fewer (Some k) = Some (k - 1)
 
-abbrev pub saved : (ℕ → Option Card) → Saves → ℕ → ℕ → Card → Saved
+abbrev pub saved : (ℕ → Option Card) → Option ℕ → ℕ → ℕ → Card → Saved
 saved place saves next n card =
     cond (none_left saves)
     (after (Err (NoSave next)) place saves)

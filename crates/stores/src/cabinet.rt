@@ -1,11 +1,10 @@
 // The cabinet: a card in memory for each replica, with saves without end.
 ghost use Rattle.std.specs.Prelude.{◌≡◌, ℕ, None};
-ghost use Rattle.stores.specs.declared.store.Saves.TheVariants.{Endless};
 ghost use Rattle.stores.specs.Cabinets.{kept};
 
 use crate::card::Card;
 use crate::fault::StoreFault;
-use crate::store::{Saves, Store};
+use crate::store::Store;
 use wire::Replica;
 
 #[derive(Drop)]
@@ -25,7 +24,7 @@ impl Cabinet {
 impl Store for Cabinet {
     ghost place = { kept };
 
-    ghost saves = { λ _. Endless };
+    ghost saves = { λ _. None };
 
     ghost next = { λ _. 0 };
 
@@ -38,7 +37,7 @@ impl Store for Cabinet {
         Ok(())
     }
 
-    fn left(&self) -> Saves {
-        Saves::Endless
+    fn left(&self) -> Option<u64> {
+        None
     }
 }

@@ -15,14 +15,9 @@ impl Fault for StoreFault {
     ghost refusal = { store_refusal };
 
     fn told(&self) -> Refusal {
-        let (number, place) = match *self {
-            StoreFault::NoSave(place) => (9, place),
-            StoreFault::Damaged(record) => (22, record),
-        };
-        Refusal {
-            number,
-            layer: Layer::Store,
-            place,
+        match *self {
+            StoreFault::NoSave(place) => Refusal::new(9, Layer::Store).at(place),
+            StoreFault::Damaged(record) => Refusal::new(22, Layer::Store).at(record),
         }
     }
 }

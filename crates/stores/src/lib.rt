@@ -9,4 +9,4 @@ mod store;
 pub use cabinet::Cabinet;
 pub use card::Card;
 pub use fault::StoreFault;
-pub use store::{Saves, Store};
+pub use store::Store;

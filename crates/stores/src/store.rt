@@ -1,24 +1,17 @@
 // The store by its meaning: for each replica number no card or one, and how many saves are left.
 ghost use Rattle.std.specs.Prelude.{◌≡◌, ℕ, Option};
 ghost use Rattle.stores.specs.declared.card.Card.{Card};
-ghost use Rattle.stores.specs.declared.store.Saves.{Saves};
 ghost use Rattle.stores.specs.Saved.{after, saved};
 
 use crate::card::Card;
 use crate::fault::StoreFault;
 use wire::Replica;
 
-// How many saves are left.
-#[derive(Clone, Copy, PartialEq, Eq, Debug)]
-pub enum Saves {
-    Endless,
-    Only(u64),
-}
-
 pub trait Store {
     ghost place: { Self → ℕ → Option Card };
 
-    ghost saves: { Self → Saves };
+    // how many saves are left; None: without end
+    ghost saves: { Self → Option ℕ };
 
     // the place that a refused save names
     ghost next: { Self → ℕ };
@@ -31,7 +24,7 @@ pub trait Store {
     fn save(&mut self, replica: Replica, card: Card) -> Result<(), StoreFault>
         ensures { after result (place self.new) (saves self.new) ≡ saved (place self.old) (saves self.old) (next self.old) replica.number card };
 
-    // How many saves are left.
-    fn left(&self) -> Saves
+    // How many saves are left; `None`: without end.
+    fn left(&self) -> Option<u64>
         ensures { result ≡ saves self.now };
 }

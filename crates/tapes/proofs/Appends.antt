@@ -1,17 +1,18 @@
 -- What a record behind the others makes of the cards of a tape. Assumes nothing.
-use Rattle.std.proofs.Common.{◌≡◌, ℕ, ◌+◌, ◌-◌, ◌*◌, ◌/◌, ◌<◌, ◌≤◌, min, true, false, cond, eqb, ltb, List, ◌++◌, length, take, drop, is_ok, Some, None, Ok, Err, Option, Result, sym, ap, ◌∙◌, ⊎_elim, add-one, arith, length-append, length-drop, take-append-drop}
+use Rattle.std.proofs.Common.{◌≡◌, ℕ, suc, ◌+◌, ◌-◌, ◌*◌, ◌/◌, ◌<◌, ◌≤◌, min, true, false, cond, eqb, ltb, List, [], ◌∷◌, ◌++◌, length, take, drop, find, is_ok, Some, None, Ok, Err, Option, Result, Bool, refl, sym, ap, ◌∙◌, ⊎_elim, add-one, arith, length-append, length-drop, take-append-drop}
+use Rattle.std.specs.Option.{option_map}
+use Rattle.std.specs.Simd.{first_chunks}
 use borrow.Rule.Slice.PartMut.{put_mid}
-use Rattle.std.proofs.lemmas.List.{take_at, drop_at, drop-drop, length-take-le}
+use Rattle.std.proofs.lemmas.List.{drop-drop, length-take-le, reverse-append}
 use Rattle.std.proofs.lemmas.Bool.{ltb-true, ltb-false, lt-ltb, eqb-true, eq-eqb, ne_eqb, cond-true, cond-false, cases_Bool}
 use Rattle.stores.specs.declared.card.Card.{Card}
 use Rattle.stores.specs.declared.fault.StoreFault.{StoreFault}
 use Rattle.stores.specs.declared.fault.StoreFault.TheVariants.{NoSave}
-use Rattle.stores.specs.declared.store.Saves.TheVariants.{Only}
 use Rattle.tapes.specs.Records.{encoded, decoded, Fitting}
 use Rattle.stores.specs.Saved.{after, put, saved}
-use Rattle.tapes.specs.Tapes.{record_at, found, Lent, whole, room, card_of, Changed, written, longer, appended}
+use Rattle.tapes.specs.Tapes.{found, last_card, Lent, whole, room, card_of, Changed, written, longer, appended}
 use Rattle.tapes.proofs.Codec.{length_encoded, decoded_encoded}
-use Rattle.tapes.proofs.Searches.{found_front}
+use Rattle.tapes.proofs.Chunks.{chunks_front, chunks_more}
 
 module _ (xs : List ℕ) (k n : ℕ) (card : Card) (fit : k * 72 + 72 ≤ length xs) where
   front : length (take (k * 72) xs) ≡ k * 72
@@ -22,25 +23,26 @@ module _ (xs : List ℕ) (k n : ℕ) (card : Card) (fit : k * 72 + 72 ≤ length
       length-append (take (k * 72) xs) (encoded n card ++ drop (k * 72 + 72) xs)
       ∙ omega (arith, front, length-append (encoded n card) (drop (k * 72 + 72) xs), length_encoded n card, length-drop (k * 72 + 72) xs)
 
-  -- the new record, and those before it
-  record_new : record_at (written xs k n card) k ≡ encoded n card
-  record_new =
-      ap (take 72) (drop_at (take (k * 72) xs) (encoded n card ++ drop (k * 72 + 72) xs) (k * 72) front)
-      ∙ take_at (encoded n card) (drop (k * 72 + 72) xs) 72 (length_encoded n card)
-
-  found_old : (m : ℕ) → found (written xs k n card) m k ≡ found xs m k
-  found_old m =
+  -- those before it, and the new record
+  records_new : first_chunks 72 (suc k) (written xs k n card) ≡ first_chunks 72 k xs ++ encoded n card ∷ []
+  records_new =
       let low : k * 72 ≤ length (take (k * 72) xs) = omega (arith, front) in
-      found_front (take (k * 72) xs) (encoded n card ++ drop (k * 72 + 72) xs) m k low
-      ∙ sym (found_front (take (k * 72) xs) (drop (k * 72) xs) m k low)
-      ∙ ap (λ ys. found ys m k) (take-append-drop (k * 72) xs)
+      chunks_more 72 k (take (k * 72) xs) (encoded n card) (drop (k * 72 + 72) xs) front (length_encoded n card)
+      ∙ ap (λ l. l ++ encoded n card ∷ [])
+      (sym (chunks_front 72 k (take (k * 72) xs) (drop (k * 72) xs) low) ∙ ap (first_chunks 72 k) (take-append-drop (k * 72) xs))
+
+  option_cond : (o : Option (List ℕ)) (b : Bool) → option_map (λ r. (decoded r).card) (cond b (Some (encoded n card)) o) ≡ cond b (Some (decoded (encoded n card)).card) (option_map (λ r. (decoded r).card) o)
+  option_cond o true = refl
+  option_cond o false = refl
 
   pub found_new : Fitting card → (m : ℕ) → found (written xs k n card) m (k + 1) ≡ cond (eqb m n) (Some card) (found xs m k)
-  unfolding found
   found_new f m =
-      let new : decoded (record_at (written xs k n card) k) ≡ record { replica = n; card = card } = ap decoded record_new ∙ decoded_encoded n card f in
+      let new : decoded (encoded n card) ≡ record { replica = n; card = card } = decoded_encoded n card f in
       ap (found (written xs k n card) m) (add-one k)
-      ∙ (λ i. cond (eqb m (new i).replica) (Some (new i).card) (found_old m i))
+      ∙ ap (λ rs. last_card rs m) records_new
+      ∙ ap (λ rs. option_map (λ r. (decoded r).card) (find (λ r. eqb m (decoded r).replica) rs)) (reverse-append (first_chunks 72 k xs) (encoded n card ∷ []))
+      ∙ option_cond _ (eqb m (decoded (encoded n card)).replica)
+      ∙ (λ i. cond (eqb m (new i).replica) (Some (new i).card) (found xs m k))
 
 -- a write to the 72 bytes behind the first k records
 pub append_more : (l : Lent) (k n : ℕ) (card : Card) (part : List ℕ) → k ≡ whole l → k < length l.bytes / 72 → part ≡ encoded n card
@@ -85,25 +87,25 @@ module _ (l : Lent) (n : ℕ) (card : Card) (small : ltb n 64 ≡ true) where
         ∙ ap (λ z. cond (ltb m 64) z None) (found_new l.bytes (whole l) n card fit f m)
         ∙ swapped m n small (Some card) (found l.bytes m (whole l))
 
-    pub saved_more : Fitting card → after (Ok tt) (card_of (longer l n card)) (Only (room (longer l n card))) ≡ saved (card_of l) (Only (room l)) (whole l) n card
+    pub saved_more : Fitting card → after (Ok tt) (card_of (longer l n card)) (Some (room (longer l n card))) ≡ saved (card_of l) (Some (room l)) (whole l) n card
     saved_more f =
         let left : eqb (room l) 0 ≡ false = ne_eqb (room l) 0 (λ e. omega (arith, e, ltb-true (whole l) (length l.bytes / 72) more)) in
-        (λ i. after (Ok tt) (λ m. cards_new f m i) (Only (room_new i)))
+        (λ i. after (Ok tt) (λ m. cards_new f m i) (Some (room_new i)))
         ∙ sym (cond-false (eqb (room l) 0) _ _ left)
 
-  pub saved_none : ltb (whole l) (length l.bytes / 72) ≡ false → after (Err (NoSave (whole l))) (card_of l) (Only (room l)) ≡ saved (card_of l) (Only (room l)) (whole l) n card
+  pub saved_none : ltb (whole l) (length l.bytes / 72) ≡ false → after (Err (NoSave (whole l))) (card_of l) (Some (room l)) ≡ saved (card_of l) (Some (room l)) (whole l) n card
   saved_none full =
       let left : eqb (room l) 0 ≡ true = eq-eqb (room l) 0 (omega (arith, ltb-false (whole l) (length l.bytes / 72) full)) in
       sym (cond-true (eqb (room l) 0) _ _ left)
 
   -- what a save answers and leaves, by its record
   pub saved_by : (r : Result (Unit {0}) StoreFault) (l' : Lent) → ◌≡◌ {A = Changed} record { answer = r; tape = l' } (appended l n card) → (is_ok r ≡ true → Fitting card)
-      → after r (card_of l') (Only (room l')) ≡ saved (card_of l) (Only (room l)) (whole l) n card
+      → after r (card_of l') (Some (room l')) ≡ saved (card_of l) (Some (room l)) (whole l) n card
   saved_by r l' e f = ⊎_elim
       (λ (t : ltb (whole l) (length l.bytes / 72) ≡ true).
       let is = e ∙ cond-true _ _ _ t in
-      (λ i. after (is i).answer (card_of (is i).tape) (Only (room (is i).tape))) ∙ saved_more t (f (ap (λ x. is_ok x.answer) is)))
+      (λ i. after (is i).answer (card_of (is i).tape) (Some (room (is i).tape))) ∙ saved_more t (f (ap (λ x. is_ok x.answer) is)))
       (λ (t : ltb (whole l) (length l.bytes / 72) ≡ false).
       let is = e ∙ cond-false _ _ _ t in
-      (λ i. after (is i).answer (card_of (is i).tape) (Only (room (is i).tape))) ∙ saved_none t)
+      (λ i. after (is i).answer (card_of (is i).tape) (Some (room (is i).tape))) ∙ saved_none t)
       (cases_Bool (ltb (whole l) (length l.bytes / 72)))

@@ -1,3 +1,3 @@
 pub mod Appends
+pub mod Chunks
 pub mod Codec
-pub mod Searches

@@ -1,6 +1,7 @@
 -- The record of a card: 72 bytes, each number with its lowest byte first.
-use Rattle.std.specs.Prelude.{ℕ, ◌+◌, ◌*◌, ◌^◌, ◌<◌, Bool, cond, ◌&&◌, List, [], ◌∷◌, ◌++◌, ◌==◌, slice_index}
-use Rattle.wire.specs.Texts.{le}
+use Rattle.std.specs.Prelude.{ℕ, ◌^◌, ◌<◌, Bool, cond, List, [], ◌∷◌, ◌++◌, take, drop, ◌==◌, nat_eq, slice_index}
+use Rattle.std.specs.Int.{w32, w64, from_le_bytes, to_le_bytes}
+use Rattle.std.specs.List.{starts_with}
 use Rattle.stores.specs.declared.card.Card.{Card}
 
 -- the mark, the replica, whether it is ready (1 is yes), the writer, a zero
@@ -11,26 +12,23 @@ head n c = 66 ∷ 73 ∷ 78 ∷ 49 ∷ n ∷ cond c.ready 1 0 ∷ c.pair.stamp.w
 unfoldable pub encoded : ℕ → Card → List ℕ
 encoded n c =
     head n c
-    ++ le 4 c.epoch ++ le 4 c.pair.stamp.count
-    ++ le 8 c.set.0 ++ le 8 c.seal.0
-    ++ le 8 c.previous.0 ++ le 8 c.previous_seal.0
-    ++ le 8 c.heard.0
-    ++ le 8 c.pair.word.0 ++ le 8 c.pair.seal.0
+    ++ to_le_bytes w32 c.epoch ++ to_le_bytes w32 c.pair.stamp.count
+    ++ to_le_bytes w64 c.set.0 ++ to_le_bytes w64 c.seal.0
+    ++ to_le_bytes w64 c.previous.0 ++ to_le_bytes w64 c.previous_seal.0
+    ++ to_le_bytes w64 c.heard.0
+    ++ to_le_bytes w64 c.pair.word.0 ++ to_le_bytes w64 c.pair.seal.0
 
 -- whether a record begins with its mark
 abbrev pub marked : List ℕ → Bool
-marked xs = slice_index xs 0 == 66 && (slice_index xs 1 == 73 && (slice_index xs 2 == 78 && slice_index xs 3 == 49))
+marked xs = starts_with nat_eq xs (66 ∷ 73 ∷ 78 ∷ 49 ∷ [])
 
 -- the number in the 4 bytes at this place
 abbrev pub four : List ℕ → ℕ → ℕ
-four xs at = slice_index xs at + slice_index xs (at + 1) * 256 + slice_index xs (at + 2) * 65536 + slice_index xs (at + 3) * 16777216
+four xs at = from_le_bytes w32 (take 4 (drop at xs))
 
 -- the number in the 8 bytes at this place
 abbrev pub eight : List ℕ → ℕ → ℕ
-eight xs at =
-    slice_index xs at + slice_index xs (at + 1) * 256 + slice_index xs (at + 2) * 65536 + slice_index xs (at + 3) * 16777216
-    + slice_index xs (at + 4) * 4294967296 + slice_index xs (at + 5) * 1099511627776
-    + slice_index xs (at + 6) * 281474976710656 + slice_index xs (at + 7) * 72057594037927936
+eight xs at = from_le_bytes w64 (take 8 (drop at xs))
 
 pub record Decoded : Type 0 where
   pub replica : ℕ

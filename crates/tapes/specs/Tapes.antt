@@ -1,21 +1,21 @@
 -- What a tape holds: whole records one behind the other, of which the last of a replica counts.
 -- Each meaning is total: none of them asks that the used part fits the bytes.
-use Rattle.std.specs.Prelude.{ℕ, zero, suc, ◌+◌, ◌-◌, ◌*◌, ◌/◌, ◌%◌, min, cond, List, ◌++◌, length, take, drop, Some, None, Ok, Err, Option, Result, ◌==◌, nat_lt}
+use Rattle.std.specs.Prelude.{ℕ, ◌+◌, ◌-◌, ◌*◌, ◌/◌, ◌%◌, min, cond, not, List, ◌++◌, length, take, drop, reverse, position, find, Some, None, Ok, Err, Option, Result, ◌==◌, nat_lt}
+use Rattle.std.specs.Option.{option_map}
+use Rattle.std.specs.Simd.{first_chunks}
 use Rattle.stores.specs.declared.card.Card.{Card}
 use Rattle.stores.specs.declared.fault.StoreFault.{StoreFault}
 use Rattle.stores.specs.declared.fault.StoreFault.TheVariants.{NoSave, Damaged}
 use Rattle.tapes.specs.declared.tape.Tape.{Tape}
 use Rattle.tapes.specs.Records.{encoded, decoded, marked}
 
--- the 72 bytes of record k
-abbrev pub record_at : List ℕ → ℕ → List ℕ
-record_at xs k = take 72 (drop (k * 72) xs)
+-- the card of the last of these records that is of replica n
+abbrev pub last_card : List (List ℕ) → ℕ → Option Card
+last_card rs n = option_map (λ r. (decoded r).card) (find (λ r. n == (decoded r).replica) (reverse rs))
 
 -- the card of the last of the first k records that is of replica n
-unfoldable pub found : List ℕ → ℕ → ℕ → Option Card
-found xs n zero = None
-found xs n (suc k) =
-    cond (n == (decoded (record_at xs k)).replica) (Some (decoded (record_at xs k)).card) (found xs n k)
+abbrev pub found : List ℕ → ℕ → ℕ → Option Card
+found xs n k = last_card (first_chunks 72 k xs) n
 
 -- the bytes of a tape, and how many are used
 pub record Lent : Type 0 where
@@ -36,14 +36,9 @@ room l = length l.bytes / 72 - whole l
 abbrev pub card_of : Lent → ℕ → Option Card
 card_of l n = cond (nat_lt n 64) (found l.bytes n (whole l)) None
 
-abbrev pub or_else : Option ℕ → Option ℕ → Option ℕ
-or_else None o = o
-or_else (Some k) o = Some k
-
 -- the first of the first k records that has no mark
-unfoldable pub unmarked : List ℕ → ℕ → Option ℕ
-unmarked xs zero = None
-unmarked xs (suc k) = or_else (unmarked xs k) (cond (marked (record_at xs k)) None (Some k))
+abbrev pub unmarked : List ℕ → ℕ → Option ℕ
+unmarked xs k = position (λ r. not (marked r)) (first_chunks 72 k xs)
 
 abbrev pub damaged : Option ℕ → Result (Unit {0}) StoreFault
 damaged None = Ok tt

@@ -1,56 +1,58 @@
 // The tape: records one behind the other in bytes that the caller lends, of which the last of a replica counts.
-ghost use Rattle.std.specs.Prelude.{◌≡◌, ◌*◌, ◌≤◌, true, length, is_ok, IfOk};
-ghost use Rattle.stores.specs.declared.store.Saves.TheVariants.{Only};
+ghost use Rattle.std.specs.Prelude.{◌≡◌, ◌==◌, true, not, length, reverse, position, find, Some, is_ok, slice_index, IfOk};
+ghost use Rattle.std.specs.Option.{option_copied};
+ghost use Rattle.std.specs.Simd.{first_chunks};
 ghost use Rattle.stores.specs.Saved.{after, saved};
-ghost use Rattle.tapes.specs.Records.{Fitting};
-ghost use Rattle.tapes.specs.Tapes.{found, inspected, lent, whole, room, card_of, seen, opened, changed, appended};
+ghost use Rattle.tapes.specs.Records.{marked, Fitting};
+ghost use Rattle.tapes.specs.Tapes.{last_card, inspected, lent, whole, room, card_of, seen, opened, changed, appended};
 
-use crate::record::{RECORD_SIZE, is_marked, read_record, write_record};
-use stores::{Card, Saves, Store, StoreFault};
+use crate::record::{RECORD_SIZE, is_marked, read_card, record_of};
+use stores::{Card, Store, StoreFault};
 use wire::Replica;
 
 // The first `used` bytes are records, and the rest is room for more.
+// Stays: the caller lends the bytes, so the tape has them and a length beside them in place of a `Vec`.
 #[derive(Drop)]
 pub struct Tape<'a> {
     bytes: &'a mut [u8],
     used: usize,
 }
 
+// The place of the first of these records that has no mark.
+fn first_unmarked(records: &[[u8; RECORD_SIZE]]) -> Option<usize>
+    ensures { result ≡ position (λ r. not (marked r)) records.now }
+{
+    records.iter().position(|record| !is_marked(record))
+}
+
+// The last of these records that is of this replica.
+fn last_record(records: &[[u8; RECORD_SIZE]], number: u8) -> Option<&[u8; RECORD_SIZE]>
+    ensures { option_copied result ≡ find (λ r. number == slice_index r 4) (reverse records.now) }
+{
+    records.iter().rev().find(|record| number == record[4])
+}
+
+// The card of the last of these records that is of this replica.
+fn find_last(records: &[[u8; RECORD_SIZE]], number: u8) -> Option<Card>
+    ensures { result ≡ last_card records.now number }
+{
+    last_record(records, number).map(read_card)
+}
+
 // Whether the used bytes are whole records with their marks.
 fn inspect(bytes: &[u8], used: usize) -> Result<(), StoreFault>
     ensures { result ≡ inspected bytes.now used }
 {
-    if used > bytes.len() {
-        return Err(StoreFault::Damaged((bytes.len() / RECORD_SIZE) as u64));
+    let whole = (bytes.len() / RECORD_SIZE) as u64;
+    let bytes = bytes.get(..used).ok_or(StoreFault::Damaged(whole))?;
+    let (records, rest) = bytes.as_chunks::<RECORD_SIZE>();
+    if !rest.is_empty() {
+        return Err(StoreFault::Damaged(records.len() as u64));
     }
-    let records = used / RECORD_SIZE;
-    if used % RECORD_SIZE != 0 {
-        return Err(StoreFault::Damaged(records as u64));
+    match first_unmarked(records) {
+        Some(record) => Err(StoreFault::Damaged(record as u64)),
+        None => Ok(()),
     }
-    for k in 0..records {
-        let at = k * RECORD_SIZE;
-        if !is_marked(&bytes[at..at + RECORD_SIZE]) {
-            return Err(StoreFault::Damaged(k as u64));
-        }
-    }
-    Ok(())
-}
-
-// The card of the last of so many records that is of this replica.
-fn find_last(bytes: &[u8], records: usize, number: u8) -> Option<Card>
-    requires { records * 72 ≤ length bytes.now }
-    ensures { result ≡ found bytes.now number records }
-{
-    let mut left = records;
-    while left > 0 {
-        left -= 1;
-        let at = left * RECORD_SIZE;
-        let record = &bytes[at..at + RECORD_SIZE];
-        if number == record[4] {
-            return Some(read_record(record));
-        }
-    }
-    None
 }
 
 impl<'a> Tape<'a> {
@@ -63,25 +65,28 @@ impl<'a> Tape<'a> {
         Ok(Tape { bytes, used })
     }
 
-    // How many whole records there are.
-    fn records(&self) -> usize
-        ensures { result ≡ whole (lent self.now) }
+    // Its whole records.
+    fn records(&self) -> &[[u8; RECORD_SIZE]]
+        ensures value { result.now ≡ first_chunks 72 (whole (lent self.now)) self.now.bytes.now }
+        ensures count { length result.now ≡ whole (lent self.now) }
     {
-        self.used.min(self.bytes.len()) / RECORD_SIZE
+        let used = self.used.min(self.bytes.len());
+        let (records, _) = self.bytes[..used].as_chunks::<RECORD_SIZE>();
+        records
     }
 
     // Writes a record into the next 72 bytes, and into no others.
-    fn append(&mut self, replica: Replica, card: &Card) -> Result<(), StoreFault>
-        ensures change { changed result self.new ≡ appended (lent self.old) replica.number card.now }
-        ensures fits { is_ok result ≡ true → Fitting card.now }
+    fn append(&mut self, replica: Replica, card: Card) -> Result<(), StoreFault>
+        ensures change { changed result self.new ≡ appended (lent self.old) replica.number card }
+        ensures fits { is_ok result ≡ true → Fitting card }
         ensures slice { self.new.bytes.ghost_name ≡ self.old.bytes.ghost_name }
     {
-        let records = self.records();
+        let records = self.records().len();
         if records >= self.bytes.len() / RECORD_SIZE {
             return Err(StoreFault::NoSave(records as u64));
         }
         let at = records * RECORD_SIZE;
-        write_record(&mut self.bytes[at..at + RECORD_SIZE], replica, card);
+        self.bytes[at..at + RECORD_SIZE].copy_from_slice(&record_of(replica, card));
         self.used = at + RECORD_SIZE;
         Ok(())
     }
@@ -90,24 +95,23 @@ impl<'a> Tape<'a> {
 impl Store for Tape<'_> {
     ghost place = { λ t. card_of (lent t) };
 
-    ghost saves = { λ t. Only (room (lent t)) };
+    ghost saves = { λ t. Some (room (lent t)) };
 
     ghost next = { λ t. whole (lent t) };
 
     fn load(&self, replica: Replica) -> Option<Card> {
-        let bytes = &*self.bytes;
-        find_last(bytes, self.records(), replica.number())
+        find_last(self.records(), replica.number())
     }
 
     fn save(&mut self, replica: Replica, card: Card) -> Result<(), StoreFault>
-        ensures meaning { after result (card_of (lent self.new)) (Only (room (lent self.new))) ≡ saved (card_of (lent self.old)) (Only (room (lent self.old))) (whole (lent self.old)) replica.number card }
+        ensures meaning { after result (card_of (lent self.new)) (Some (room (lent self.new))) ≡ saved (card_of (lent self.old)) (Some (room (lent self.old))) (whole (lent self.old)) replica.number card }
         ensures change { changed result self.new ≡ appended (lent self.old) replica.number card }
         ensures slice { self.new.bytes.ghost_name ≡ self.old.bytes.ghost_name }
     {
-        self.append(replica, &card)
+        self.append(replica, card)
     }
 
-    fn left(&self) -> Saves {
-        Saves::Only((self.bytes.len() / RECORD_SIZE - self.records()) as u64)
+    fn left(&self) -> Option<u64> {
+        Some((self.bytes.len() / RECORD_SIZE - self.records().len()) as u64)
     }
 }

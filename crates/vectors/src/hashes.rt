@@ -2,6 +2,7 @@
 ghost use Rattle.std.specs.Prelude.{◌≤◌};
 
 use siphash::{Key, siphash};
+use std::array;
 
 // The hash of the message 00, 01, .. of each length from 0 to 63, under the key 00, 01, .. 0f.
 const HASHES: [u64; 64] = [
@@ -79,15 +80,10 @@ pub(crate) fn hashes_that_agree() -> usize
         low: 0x0706_0504_0302_0100,
         high: 0x0f0e_0d0c_0b0a_0908,
     };
-    let mut message = [0u8; 64];
-    for (i, byte) in message.iter_mut().enumerate() {
-        *byte = (i % 256) as u8;
-    }
-    let mut agree = 0;
-    for (length, hash) in HASHES.iter().enumerate() {
-        if siphash(key, &message[0..length]) == *hash {
-            agree += 1;
-        }
-    }
-    agree
+    let message: [u8; 64] = array::from_fn(|i| (i % 256) as u8);
+    HASHES
+        .iter()
+        .enumerate()
+        .filter(|(length, hash)| siphash(key, &message[..*length]) == **hash)
+        .count()
 }

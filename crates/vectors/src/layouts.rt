@@ -54,20 +54,12 @@ pub(crate) fn texts_that_agree() -> usize
 pub(crate) fn tape_bytes_that_agree() -> usize {
     let mut bytes = [0xee; 144];
     save_record(&mut bytes);
-    let mut agree: usize = 0;
-    for (i, row) in RECORD.iter().enumerate() {
-        for (j, expected) in row.iter().enumerate() {
-            if bytes.get(i * 8 + j) == Some(expected) {
-                agree = agree.saturating_add(1);
-            }
-        }
-    }
-    for byte in bytes.iter().skip(72) {
-        if *byte == 0xee {
-            agree = agree.saturating_add(1);
-        }
-    }
-    agree
+    let expected = RECORD.iter().flatten().chain([0xee; 72].iter());
+    bytes
+        .iter()
+        .zip(expected)
+        .filter(|(byte, expected)| byte == expected)
+        .count()
 }
 
 fn save_record(bytes: &mut [u8]) {

@@ -1,10 +1,11 @@
--- Four bytes are read at once, and what follows them stands above.
-use Rattle.std.proofs.Common.{arith}
+-- The bytes stand in a block of zeros.
+use Rattle.std.proofs.Common.{◌≡◌, ◌++◌, length, drop, replicate, ap, ◌∙◌, arith}
+use Rattle.siphash.specs.Words.{little}
+use Rattle.siphash.proofs.Bytes.{little_small, little_zeros}
 use Rattle.siphash.proofs.short.Goals as goal
-use Rattle.siphash.proofs.Bytes.{little_four}
 
-pub returns-in-Some : goal.returns-in-Some
-returns-in-Some c =
-    let h = c.in-Some.ensures.cases in
-    let e = little_four c.args.bytes.now c.in-Some.four.now c.in-Some.more.now _ h.0 h.1 c.from_le_bytes.ensures in
-    record { value = omega (arith, c.few.ensures.value, c.few.ensures.small); small = omega (arith, c.few.ensures.small) }
+pub returns : goal.returns
+returns c =
+    let bs = c.args.bytes.now in
+    let value : c.word.result ≡ little bs = c.word.ensures ∙ ap (λ l. little (l ++ drop (length bs) (replicate 8 0))) c.copy_from_slice.ensures.after ∙ little_zeros bs (length bs) 8 in
+    record { value = value; small = omega (arith, value, little_small bs c.requires (λ i. (c.type_inv.bytes i).fits)) }

@@ -1,22 +1,16 @@
-use Rattle.std.proofs.Common.{◌≡◌, ◌/◌, false, sym, ap, ◌∙◌, rules}
-use Rattle.tapes.specs.Records.{marked}
-use Rattle.tapes.specs.Tapes.{record_at}
-use Rattle.tapes.proofs.Searches.{part_is, unmarked_none, unmarked_more, unmarked_stays}
+-- The used bytes are whole records within the bytes.
+use Rattle.std.proofs.Common.{◌≡◌, ◌%◌, Some, None, arith, rules}
+use Rattle.tapes.proofs.Chunks.{inspected_by}
 use Rattle.tapes.proofs.tape.inspect.Goals as goal
 
-pub loop-k-init : goal.loop-k-init
-loop-k-init c = unmarked_none c.args.bytes.now
+pub returns-in-Some : goal.returns-in-Some
+returns-in-Some c =
+    let found = rw c.in_ok-bytes.ensures.ok_part at c.get.ensures.lookup in
+    let even : c.args.used % 72 ≡ 0 = search (rules, arith) in
+    inspected_by c.args.bytes.now c.in_ok-bytes.bytes.now _ c.args.used (Some c.in-Some.record) found.0.1 even found.0.2 c.as_chunks.ensures.front c.in-Some.ensures
 
-pub returns-then-not-is_marked : goal.returns-then-not-is_marked
-returns-then-not-is_marked c =
-    let xs = c.args.bytes.now in
-    let k = c.loop-k.k in
-    let none : marked (record_at xs k) ≡ false = sym (ap marked (part_is xs k)) ∙ sym c.is_marked.ensures ∙ c.if-not-is_marked.true in
-    let first = unmarked_stays xs k (c.args.used / 72) c.loop-k-test.true c.loop-k.invariant none in
-    search rules
-
-pub loop-k-preserved : goal.loop-k-preserved
-loop-k-preserved c =
-    let xs = c.args.bytes.now in
-    let k = c.loop-k.k in
-    unmarked_more xs k c.loop-k.invariant (sym (ap marked (part_is xs k)) ∙ sym c.is_marked.ensures ∙ c.if-not-is_marked.false)
+pub returns-in-None : goal.returns-in-None
+returns-in-None c =
+    let found = rw c.in_ok-bytes.ensures.ok_part at c.get.ensures.lookup in
+    let even : c.args.used % 72 ≡ 0 = search (rules, arith) in
+    inspected_by c.args.bytes.now c.in_ok-bytes.bytes.now _ c.args.used None found.0.1 even found.0.2 c.as_chunks.ensures.front c.in-None.ensures

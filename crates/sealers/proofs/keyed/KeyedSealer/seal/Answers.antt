@@ -1,23 +1,27 @@
 -- The party's row is spent, and the seal is the one that its key gives.
-use Rattle.std.proofs.Common.{set, vec_items, sym, refl, ap, ◌∙◌, arith}
-use Rattle.std.specs.Vec.{with_item}
-use Rattle.sealers.specs.declared.keyed.Keyed.{Keyed}
-use Rattle.sealers.specs.Keys.{row_at}
-use Rattle.sealers.proofs.KeyRows.{nth_within, spent_if, change_if, same_genuine, given_genuine}
+use Rattle.std.proofs.Common.{◌≡◌, Some, set, vec_items, sym, refl, ap, ◌∙◌, arith}
+use Rattle.std.proofs.lemmas.Option.{slice_get_within}
+use Rattle.sealers.specs.Keys.{key_place, key_row, row_at}
+use Rattle.sealers.specs.Lending.{with_row}
+use Rattle.sealers.proofs.KeyRows.{spent_if, change_if, same_genuine, given_genuine}
 use Rattle.sealers.proofs.keyed.KeyedSealer.seal.Goals as goal
 
 pub row-requires : goal.row-requires
 row-requires c =
     let k = c.args.self.now in
-    let held = sym (ap (row_at (vec_items k.rows)) (sym c.in-Some-place.ensures)) ∙ sym c.in-Some.ensures in
-    omega (arith, nth_within (vec_items k.rows) c.in-Some-place.place c.in-Some.row held, k.rows.ok.0)
+    let there : key_place c.args.text.party ≡ Some c.in_ok-place.place = sym c.place.ensures ∙ c.in_ok-place.ensures.ok_part in
+    let held = sym (ap (row_at (vec_items k.rows)) there) ∙ sym c.row_of.ensures ∙ c.in_ok-row.ensures.ok_part in
+    omega (arith, slice_get_within (vec_items k.rows) c.in_ok-place.place c.in_ok-row.row held, k.rows.ok.0)
 
 pub returns : goal.returns
 returns c =
     let k = c.args.self.now in
     let text = c.args.text in
-    let k' : Keyed = record { rows = with_item k.rows c.in-Some-place.place c.spend.new.self } in
-    let w = spent_if k k' text.party c.in-Some-place.place c.in-Some.row c.row.result.now (sym c.in-Some-place.ensures) (sym c.in-Some.ensures) k.rows.ok.0 c.row.ensures.value (ap (set (vec_items k.rows) c.in-Some-place.place) c.spend.ensures) in
+    let place = c.in_ok-place.place in
+    let row = c.in_ok-row.row in
+    let there : key_place text.party ≡ Some place = sym c.place.ensures ∙ c.in_ok-place.ensures.ok_part in
+    let has : key_row k text.party ≡ Some row = sym c.row_of.ensures ∙ c.in_ok-row.ensures.ok_part in
+    let w = spent_if k (with_row k place c.spend.new.self) text.party place row c.row.result.now there has k.rows.ok.0 c.row.ensures.value (ap (set (vec_items k.rows) place) c.spend.ensures) in
     record {
       change = change_if w text c.seal_of.result refl c.seal_of.ensures c.if-row-eq0.false;
       grows = (given_genuine w text c.seal_of.result refl c.seal_of.ensures, λ t s g. same_genuine w t s ∙ g);
