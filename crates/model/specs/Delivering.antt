@@ -8,13 +8,14 @@ use Rattle.wire.specs.declared.party.Party.TheVariants.{Source as TheSource, Cli
 use Rattle.wire.specs.Entries.{kind_of}
 use Rattle.wire.specs.Parties.{Client, Replica}
 use Rattle.stores.specs.declared.card.Card.{Card}
+use Rattle.stores.specs.Saved.{Shelf}
 use Rattle.clients.specs.declared.fault.ClientFault.{ClientFault}
 use Rattle.clients.specs.declared.line.Line.{Line}
 use Rattle.clients.specs.declared.line.Stage.{Stage}
 use Rattle.clients.specs.declared.line.Stage.TheVariants.{Idle, Reading, Writing, WritingBack, Over}
 use Rattle.clients.specs.Steps.{client_stepped, Stepped as ClientStepped}
 use Rattle.replicas.specs.declared.fault.ReplicaFault.{ReplicaFault}
-use Rattle.replicas.specs.Steps.{replica_stepped, Shelf, Stepped as ReplicaStepped}
+use Rattle.replicas.specs.Steps.{replica_stepped, Stepped as ReplicaStepped}
 use Rattle.halls.specs.declared.fault.HallFault.TheVariants.{NoSuch, Full, Unfit, Step}
 use Rattle.halls.specs.declared.fault.StepFault.TheVariants.{Client as ByClient, Replica as ByReplica}
 use Rattle.halls.specs.declared.operation.Operation.{Operation}

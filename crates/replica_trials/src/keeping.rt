@@ -52,7 +52,7 @@ fn save_and_load<S: Store>(
     replica: Replica,
     card: Card,
 ) -> Result<Option<Card>, StoreFault>
-    ensures { result ≡ (if none_left (S.Store.saves store.old) then Err (NoSave (S.Store.next store.old)) else Ok (Some card)) }
+    ensures { result ≡ (if none_left (S.Store.shelf store.old).saves then Err (NoSave (S.Store.shelf store.old).next) else Ok (Some card)) }
 {
     store.save(replica, card)?;
     Ok(store.load(replica))

@@ -6,19 +6,13 @@ use Rattle.wire.specs.declared.text.Text.{Text}
 use Rattle.wire.specs.Parties.{Replica}
 use Rattle.stores.specs.declared.card.Card.{Card}
 use Rattle.stores.specs.declared.fault.StoreFault.{StoreFault}
-use Rattle.stores.specs.Saved.{Saved, saved}
+use Rattle.stores.specs.Saved.{Shelf, Saved, saved}
 use Rattle.rules.specs.declared.objection.Objection.TheVariants.{NotMember}
 use Rattle.rules.specs.declared.rules.Rules.{Rules}
 use Rattle.rules.specs.Genuine.{genuine_entry}
 use Rattle.replicas.specs.declared.fault.ReplicaFault.{ReplicaFault}
 use Rattle.replicas.specs.declared.fault.ReplicaFault.TheVariants.{Objects, Store}
 use Rattle.replicas.specs.Decisions.{Verdict, decided}
-
--- the meaning of a store: a card or none for each replica number, the saves left, the place that a refused save names
-pub record Shelf : Type 0 where
-  pub place : ℕ → Option Card
-  pub saves : Option ℕ
-  pub next : ℕ
 
 -- what a step answers and leaves in the store
 pub record Stepped : Type 0 where
@@ -40,7 +34,7 @@ after_save s post = record { answer = answered s.answer post; place = s.place; s
 
 abbrev pub saving : Option Card → Shelf → ℕ → Option Entry → Stepped
 saving None store n post = unmoved store (Ok post)
-saving (Some card) store n post = after_save (saved store.place store.saves store.next n card) post
+saving (Some card) store n post = after_save (saved store n card) post
 
 abbrev pub acted : Verdict → Shelf → Replica → Stepped
 acted (Err why) store replica = unmoved store (Err (Objects replica why))

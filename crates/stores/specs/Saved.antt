@@ -4,6 +4,15 @@ use Rattle.stores.specs.declared.card.Card.{Card}
 use Rattle.stores.specs.declared.fault.StoreFault.{StoreFault}
 use Rattle.stores.specs.declared.fault.StoreFault.TheVariants.{NoSave}
 
+-- the meaning of a store
+pub record Shelf : Type 0 where
+  -- the card of each replica number, or none
+  pub place : ℕ → Option Card
+  -- how many saves are left (None: without end)
+  pub saves : Option ℕ
+  -- the place that a refused save names
+  pub next : ℕ
+
 -- what a save answers and leaves: the card of each replica number, and the saves (None: without end)
 pub record Saved : Type 0 where
   pub answer : Result (Unit {0}) StoreFault
@@ -25,8 +34,8 @@ abbrev pub one_fewer : Option ℕ → Option ℕ
 one_fewer None = None
 one_fewer (Some k) = Some (k - 1)
 
-abbrev pub saved : (ℕ → Option Card) → Option ℕ → ℕ → ℕ → Card → Saved
-saved place saves next n card =
-    cond (none_left saves)
-    (after (Err (NoSave next)) place saves)
-    (after (Ok tt) (put place n card) (one_fewer saves))
+abbrev pub saved : Shelf → ℕ → Card → Saved
+saved store n card =
+    cond (none_left store.saves)
+    (after (Err (NoSave store.next)) store.place store.saves)
+    (after (Ok tt) (put store.place n card) (one_fewer store.saves))

@@ -1,6 +1,6 @@
 // The cabinet: a card in memory for each replica, with saves without end.
 ghost use Rattle.std.specs.Prelude.{◌≡◌, ℕ, None};
-ghost use Rattle.stores.specs.Cabinets.{kept};
+ghost use Rattle.stores.specs.Cabinets.{kept, cabinet_shelf};
 
 use crate::card::Card;
 use crate::fault::StoreFault;
@@ -22,11 +22,7 @@ impl Cabinet {
 }
 
 impl Store for Cabinet {
-    ghost place = { kept };
-
-    ghost saves = { λ _. None };
-
-    ghost next = { λ _. 0 };
+    ghost shelf = { cabinet_shelf };
 
     fn load(&self, replica: Replica) -> Option<Card> {
         self.cards[replica.number() as usize]

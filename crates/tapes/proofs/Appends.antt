@@ -10,7 +10,7 @@ use Rattle.stores.specs.declared.fault.StoreFault.{StoreFault}
 use Rattle.stores.specs.declared.fault.StoreFault.TheVariants.{NoSave}
 use Rattle.tapes.specs.Records.{encoded, decoded, Fitting}
 use Rattle.stores.specs.Saved.{after, put, saved}
-use Rattle.tapes.specs.Tapes.{found, last_card, Lent, whole, room, card_of, Changed, written, longer, appended}
+use Rattle.tapes.specs.Tapes.{found, last_card, Lent, whole, room, card_of, Changed, written, longer, appended, shelf_of}
 use Rattle.tapes.proofs.Codec.{length_encoded, decoded_encoded}
 use Rattle.tapes.proofs.Chunks.{chunks_front, chunks_more}
 
@@ -87,20 +87,20 @@ module _ (l : Lent) (n : ℕ) (card : Card) (small : ltb n 64 ≡ true) where
         ∙ ap (λ z. cond (ltb m 64) z None) (found_new l.bytes (whole l) n card fit f m)
         ∙ swapped m n small (Some card) (found l.bytes m (whole l))
 
-    pub saved_more : Fitting card → after (Ok tt) (card_of (longer l n card)) (Some (room (longer l n card))) ≡ saved (card_of l) (Some (room l)) (whole l) n card
+    pub saved_more : Fitting card → after (Ok tt) (card_of (longer l n card)) (Some (room (longer l n card))) ≡ saved (shelf_of l) n card
     saved_more f =
         let left : eqb (room l) 0 ≡ false = ne_eqb (room l) 0 (λ e. omega (arith, e, ltb-true (whole l) (length l.bytes / 72) more)) in
         (λ i. after (Ok tt) (λ m. cards_new f m i) (Some (room_new i)))
         ∙ sym (cond-false (eqb (room l) 0) _ _ left)
 
-  pub saved_none : ltb (whole l) (length l.bytes / 72) ≡ false → after (Err (NoSave (whole l))) (card_of l) (Some (room l)) ≡ saved (card_of l) (Some (room l)) (whole l) n card
+  pub saved_none : ltb (whole l) (length l.bytes / 72) ≡ false → after (Err (NoSave (whole l))) (card_of l) (Some (room l)) ≡ saved (shelf_of l) n card
   saved_none full =
       let left : eqb (room l) 0 ≡ true = eq-eqb (room l) 0 (omega (arith, ltb-false (whole l) (length l.bytes / 72) full)) in
       sym (cond-true (eqb (room l) 0) _ _ left)
 
   -- what a save answers and leaves, by its record
   pub saved_by : (r : Result (Unit {0}) StoreFault) (l' : Lent) → ◌≡◌ {A = Changed} record { answer = r; tape = l' } (appended l n card) → (is_ok r ≡ true → Fitting card)
-      → after r (card_of l') (Some (room l')) ≡ saved (card_of l) (Some (room l)) (whole l) n card
+      → after r (card_of l') (Some (room l')) ≡ saved (shelf_of l) n card
   saved_by r l' e f = ⊎_elim
       (λ (t : ltb (whole l) (length l.bytes / 72) ≡ true).
       let is = e ∙ cond-true _ _ _ t in

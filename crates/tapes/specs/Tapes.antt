@@ -6,6 +6,7 @@ use Rattle.std.specs.Simd.{first_chunks}
 use Rattle.stores.specs.declared.card.Card.{Card}
 use Rattle.stores.specs.declared.fault.StoreFault.{StoreFault}
 use Rattle.stores.specs.declared.fault.StoreFault.TheVariants.{NoSave, Damaged}
+use Rattle.stores.specs.Saved.{Shelf}
 use Rattle.tapes.specs.declared.tape.Tape.{Tape}
 use Rattle.tapes.specs.Records.{encoded, decoded, marked}
 
@@ -35,6 +36,9 @@ room l = length l.bytes / 72 - whole l
 -- the card of a replica's number; a record of a number above 63 is no replica's
 abbrev pub card_of : Lent → ℕ → Option Card
 card_of l n = cond (nat_lt n 64) (found l.bytes n (whole l)) None
+
+abbrev pub shelf_of : Lent → Shelf
+shelf_of l = record { place = card_of l; saves = Some (room l); next = whole l }
 
 -- the first of the first k records that has no mark
 abbrev pub unmarked : List ℕ → ℕ → Option ℕ

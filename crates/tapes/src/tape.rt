@@ -4,7 +4,7 @@ ghost use Rattle.std.specs.Option.{option_copied};
 ghost use Rattle.std.specs.Simd.{first_chunks};
 ghost use Rattle.stores.specs.Saved.{after, saved};
 ghost use Rattle.tapes.specs.Records.{marked, Fitting};
-ghost use Rattle.tapes.specs.Tapes.{last_card, inspected, lent, whole, room, card_of, seen, opened, changed, appended};
+ghost use Rattle.tapes.specs.Tapes.{last_card, inspected, lent, whole, shelf_of, seen, opened, changed, appended};
 
 use crate::record::{RECORD_SIZE, is_marked, read_card, record_of};
 use stores::{Card, Store, StoreFault};
@@ -93,18 +93,14 @@ impl<'a> Tape<'a> {
 }
 
 impl Store for Tape<'_> {
-    ghost place = { λ t. card_of (lent t) };
-
-    ghost saves = { λ t. Some (room (lent t)) };
-
-    ghost next = { λ t. whole (lent t) };
+    ghost shelf = { λ t. shelf_of (lent t) };
 
     fn load(&self, replica: Replica) -> Option<Card> {
         find_last(self.records(), replica.number())
     }
 
     fn save(&mut self, replica: Replica, card: Card) -> Result<(), StoreFault>
-        ensures meaning { after result (card_of (lent self.new)) (Some (room (lent self.new))) ≡ saved (card_of (lent self.old)) (Some (room (lent self.old))) (whole (lent self.old)) replica.number card }
+        ensures meaning { after result (shelf_of (lent self.new)).place (shelf_of (lent self.new)).saves ≡ saved (shelf_of (lent self.old)) replica.number card }
         ensures change { changed result self.new ≡ appended (lent self.old) replica.number card }
         ensures slice { self.new.bytes.ghost_name ≡ self.old.bytes.ghost_name }
     {
