@@ -23,7 +23,7 @@ impl<'a> Book<'a> {
     pub fn open(rows: &'a mut [Text], share: u16) -> Result<Book<'a>, SealerFault>
         ensures { Opened rows.old share result }
     {
-        if !(1..=256).contains(&share) || rows.len() != PARTIES * share as usize {
+        if !(1..=256).contains(&share) || rows.len() != PARTIES * usize::from(share) {
             return Err(SealerFault::Limit);
         }
         Ok(Book {
@@ -38,15 +38,16 @@ impl<'a> Book<'a> {
         requires { party < 164 }
         ensures { result ≡ next_row self.now party }
     {
-        let used = self.used[party as usize].min(self.share);
-        party as usize * self.share as usize + used as usize
+        let used = self.used[usize::from(party)].min(self.share);
+        usize::from(party) * usize::from(self.share) + usize::from(used)
     }
 
     // The row behind the party's last.
     fn end_row(&self, party: u8) -> usize
         ensures { result ≡ end_row self.now party }
     {
-        let end = party as usize * self.share as usize + self.share as usize;
+        let share = usize::from(self.share);
+        let end = usize::from(party) * share + share;
         end.min(self.rows.len())
     }
 }
@@ -60,7 +61,7 @@ impl Sealer for Book<'_> {
         }
         let row = self.next_row(text.party);
         self.rows[row] = text;
-        self.used[text.party as usize] += 1;
+        self.used[usize::from(text.party)] += 1;
         Ok(Seal(row as u64))
     }
 

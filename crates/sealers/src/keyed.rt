@@ -46,8 +46,8 @@ fn place(party: u8) -> Option<usize>
     ensures { result ≡ key_place party }
 {
     match party {
-        0..=32 => Some(party as usize),
-        100..=163 => Some(party as usize - 67),
+        0..=32 => Some(usize::from(party)),
+        100..=163 => Some(usize::from(party) - 67),
         _ => None,
     }
 }

@@ -25,11 +25,11 @@ impl Store for Cabinet {
     ghost shelf = { cabinet_shelf };
 
     fn load(&self, replica: Replica) -> Option<Card> {
-        self.cards[replica.number() as usize]
+        self.cards[usize::from(replica.number())]
     }
 
     fn save(&mut self, replica: Replica, card: Card) -> Result<(), StoreFault> {
-        self.cards[replica.number() as usize] = Some(card);
+        self.cards[usize::from(replica.number())] = Some(card);
         Ok(())
     }
 

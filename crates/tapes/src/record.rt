@@ -30,7 +30,7 @@ pub(crate) fn record_of(replica: Replica, card: Card) -> [u8; RECORD_SIZE]
         4,
         [
             replica.number(),
-            card.ready as u8,
+            u8::from(card.ready),
             card.pair.stamp.writer,
             0,
         ],

@@ -1,8 +1,7 @@
 -- The record is written field by field, each behind those before it.
 use Rattle.std.proofs.Common.{◌≡◌, ℕ, ◌≤◌, Bool, true, false, cond, List, [], ◌∷◌, ◌++◌, length, take, sym, refl, ap, ◌∙◌, arith, rules}
-use mir.Val.{bool_byte}
 use Rattle.std.proofs.lemmas.List.{take_all}
-use Rattle.std.specs.Int.{w32, w64, to_le_bytes}
+use Rattle.std.specs.Int.{w32, w64, to_le_bytes, from_bool}
 use Rattle.tapes.specs.Records.{head, encoded}
 use Rattle.tapes.proofs.record.record_of.Goals as goal
 
@@ -14,7 +13,7 @@ field front p q = p ∙ ap (λ x. front ++ x) q
 behind : (out front known field : List ℕ) → front ≡ known → out ≡ front ++ field → out ≡ known ++ field
 behind out front known field p q = q ∙ ap (λ x. x ++ field) p
 
-byte : (b : Bool) → bool_byte b ≡ cond b 1 0
+byte : (b : Bool) → from_bool b ≡ cond b 1 0
 byte true = refl
 byte false = refl
 
@@ -27,7 +26,7 @@ returns c =
     let whole : length out ≤ 72 = omega arith in
     let first : take 8 c.put-2.new.out ≡ head n card =
     behind _ _ _ _ c.put.ensures c.put-2.ensures
-    ∙ (λ i. 66 ∷ 73 ∷ 78 ∷ 49 ∷ c.number.ensures.value i ∷ byte card.ready i ∷ card.pair.stamp.writer ∷ 0 ∷ []) in
+    ∙ (λ i. 66 ∷ 73 ∷ 78 ∷ 49 ∷ c.number.ensures.value i ∷ (c.from.ensures ∙ byte card.ready) i ∷ card.pair.stamp.writer ∷ 0 ∷ []) in
     let value : out ≡ encoded n card =
     sym (take_all 72 out whole)
     ∙ behind _ _ _ (to_le_bytes w64 card.pair.seal.0) (

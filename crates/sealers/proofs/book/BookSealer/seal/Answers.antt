@@ -1,5 +1,5 @@
 -- The text stands in its party's next row, and nothing else has changed.
-use Rattle.std.proofs.Common.{◌≡◌, ◌+◌, true, length, get_or, set, sym, refl, ◌∙◌, subst, arith}
+use Rattle.std.proofs.Common.{◌≡◌, ◌+◌, true, length, get_or, set, sym, refl, ap, ◌∙◌, subst, arith}
 use borrow.Rule.Slice.Mut.{set_vals}
 use Rattle.sealers.specs.declared.book.Book.{Book}
 use Rattle.sealers.specs.Books.{book_seals, book_genuine}
@@ -12,10 +12,10 @@ returns c =
     let text = c.args.text in
     let row = c.next_row-row.result in
     let at = c.next_row-row.ensures in
-    let b' : Book = record { rows = set_vals (set b.rows.now row text) b.rows; share = b.share; used = set b.used text.party (get_or b.used text.party 0 + 1) } in
+    let b' : Book = record { rows = set_vals (set b.rows.now row text) b.rows; share = b.share; used = set b.used c.from.result (get_or b.used c.from.result 0 + 1) } in
     let some : book_seals b text.party ≡ 0 → ⊥ = λ e. c.if-left-eq0.false (c.left.ensures ∙ e) in
     let long : length b.used ≡ 164 = omega arith in
-    let w = written_if b b' text row at some long refl refl refl in
+    let w = written_if b b' text row at some long refl refl (ap (λ k. set b.used k (get_or b.used k 0 + 1)) c.from.ensures) in
     record {
       change = change_if row at some w;
       grows = (subst (λ s. book_genuine b' text (record { 0 = s }) ≡ true) (sym at) (new_genuine w), still_genuine w);
