@@ -14,6 +14,7 @@ pub enum QueryFault {
     Kind(KindFault),
 }
 
+// Stays: written out, since contracts name the error that `?` makes and a derived From says nothing of it.
 impl From<KindFault> for QueryFault {
     ghost from_gives = { λ e r. r ≡ Kind e };
 

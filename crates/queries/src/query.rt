@@ -18,6 +18,7 @@ pub enum Query {
     // B reason day: the word of a lot blocked for that reason since that day
     Blocked { reason: u64, since: u64 },
     // V kind word: the value of that kind that has this word
+    // Stays: the number of a kind, since one that no kind has is refused by the answer and not by the reading.
     Value { kind: u64, word: Word },
     // D word day: whether the lot whose card has this word may be drawn on that day
     Draw { word: Word, day: u64 },

@@ -46,6 +46,7 @@ impl fmt::Display for Layer {
 }
 
 // What is refused, by whom, and where: an entry, a record, a line or a party, else 0.
+// Stays: three numbers as they are printed; what is refused is an enum of each layer, and this is what it tells.
 #[derive(Clone, Copy, PartialEq, Eq, Debug)]
 pub struct Refusal {
     pub number: u8,

@@ -7,6 +7,7 @@ use kinds::Word;
 use wire::{Configuration, Entry, EntryKind, Pair};
 
 // Who posts an entry, for whom, and to which round and epoch it belongs; the addressee is 0 where any replica may answer.
+// Stays: numbers of parties, since what is answered may come from anybody.
 #[derive(Clone, Copy, PartialEq, Eq, Debug)]
 pub struct Heading {
     pub sender: u8,

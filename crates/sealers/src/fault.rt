@@ -7,6 +7,7 @@ use refusals::{Fault, Layer, Refusal};
 #[derive(Clone, Copy, PartialEq, Eq, Debug)]
 pub enum SealerFault {
     // This party has no seal left.
+    // Stays: a number, no `Party`: a text can name anybody, and the refusal tells whom.
     NoSeal(u8),
     // At the opening: a limit is broken.
     Limit,

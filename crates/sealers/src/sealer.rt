@@ -19,6 +19,7 @@ pub trait Sealer {
         ensures { result ≡ (desk self.now).genuine text seal };
 
     // How many seals the party of this number has left; 0 for a number that no party has.
+    // Stays: a number, since a type of parties would ask more of whoever calls.
     fn left(&self, party: u8) -> u64
         ensures { result ≡ (desk self.now).seals party };
 }

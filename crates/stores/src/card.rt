@@ -13,6 +13,7 @@ pub struct Card {
     // whom it has heard during state transfer
     pub heard: ReplicaSet,
     // whether it is ready to serve
+    // Stays: a flag, since a card that is ready keeps whom it heard, and its record on a tape has both.
     pub ready: bool,
     pub pair: Pair,
 }

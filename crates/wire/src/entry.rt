@@ -26,7 +26,8 @@ pub enum EntryKind {
     Behind = 8,
 }
 
-// A posted entry. A liar can post any numbers, so they are kept as they came; a field that a kind does not use is 0.
+// A posted entry; a field that a kind does not use is 0.
+// Stays: plain numbers, no parties and no kind: a liar can post any, and they are kept as they came.
 #[derive(Clone, Copy, PartialEq, Eq, Debug, Default)]
 pub struct Entry {
     pub sender: u8,

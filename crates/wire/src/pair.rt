@@ -13,6 +13,7 @@ pub struct Seal(pub u64);
 #[derive(Clone, Copy, PartialEq, Eq, PartialOrd, Ord, Debug, Default)]
 pub struct Stamp {
     pub count: u32,
+    // Stays: a number, no `Client`: a stamp that a liar posts can name anybody.
     pub writer: u8,
 }
 

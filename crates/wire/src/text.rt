@@ -6,6 +6,7 @@ ghost use Rattle.wire.specs.declared.text.Text.{Text};
 use crate::pair::{Configuration, Pair};
 
 // Four numbers of 1, 1, 4 and 8 bytes.
+// Stays: numbers, no party and no kind: the bytes are those of whatever a liar shows.
 #[derive(Clone, Copy, PartialEq, Eq, Debug, Default)]
 pub struct Text {
     // 67 for a configuration, the kind's number for a pair

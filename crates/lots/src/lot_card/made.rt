@@ -86,6 +86,7 @@ impl Kind for LotCard {
 
     ghost exact = { card_exact };
 
+    // Stays: the tags 1, 2 and 3 as numbers: they are the layout of a card's word.
     fn to_word(self) -> Word {
         let (tag, reason, day) = match self {
             LotCard::Quarantined { since } => (1, 0, since),
