@@ -7,7 +7,7 @@ ghost use Rattle.sealers.specs.Lending.{LendsRow};
 use crate::fault::SealerFault;
 use crate::sealer::Sealer;
 use siphash::{Key, siphash};
-use wire::{Seal, Text};
+use wire::{Party, Seal, Text};
 
 // How many parties there are: the source, 32 clients and 64 replicas.
 const PARTIES: usize = 97;
@@ -45,11 +45,12 @@ impl KeyRow {
 fn place(party: u8) -> Option<usize>
     ensures { result ≡ key_place party }
 {
-    match party {
-        0..=32 => Some(usize::from(party)),
-        100..=163 => Some(usize::from(party) - 67),
-        _ => None,
-    }
+    let place = match Party::try_from(u64::from(party)).ok()? {
+        Party::Source => 0,
+        Party::Client(client) => client.number(),
+        Party::Replica(replica) => 33 + replica.number(),
+    };
+    Some(usize::from(place))
 }
 
 // Whether no row has more than 1,000,000 seals.
