@@ -1,5 +1,5 @@
 -- What a list holds, what lies behind it in the slice, and what a change makes of the two.
--- Each meaning is total: none of them asks that the used part fits the slice.
+-- The used part fits the slice, by the type; no meaning here asks for it.
 use Rattle.std.specs.Prelude.{ℕ, cond, List, [], ◌∷◌, ◌++◌, length, take, drop, Ok, Err, Result, nat_lt, slice_set}
 use Rattle.std.specs.Borrow.{GName}
 use Rattle.lists.specs.declared.List.{List as Lent}

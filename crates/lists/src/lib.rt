@@ -2,10 +2,7 @@
 // An item is put behind the list or changed in its place, and is handed back where that cannot be.
 #![tactic(auto)]
 
-ghost use Rattle.std.specs.Prelude.{◌≡◌, ◌+◌, [], length};
-ghost use Rattle.std.specs.List.{slice_get};
-ghost use Rattle.std.specs.Option.{option_map};
-ghost use Rattle.lists.specs.Held.{held, behind, slice, after, appended, replaced};
+ghost use Rattle.std.specs.Prelude.{◌≡◌, ◌+◌, ◌≤◌, [], length};
 
 // The first `used` elements of the slice are the list, and the rest is room.
 // Stays: a slice with its used length, not a `Vec`: memory is lent by the caller.
@@ -13,9 +10,14 @@ ghost use Rattle.lists.specs.Held.{held, behind, slice, after, appended, replace
 pub struct List<'a, T> {
     items: &'a mut [T],
     used: usize,
+    ghost fits: { used ≤ length items.now },
 }
 
 impl<'a, T: Drop> List<'a, T> {
+    ghost use Rattle.std.specs.List.{slice_get};
+    ghost use Rattle.std.specs.Option.{option_map};
+    ghost use Rattle.lists.specs.Held.{held, behind, slice, after, appended, replaced};
+
     // The empty list over a slice, whose elements stay as they are.
     pub fn new(items: &'a mut [T]) -> List<'a, T>
         ensures held { held result ≡ [] }
@@ -29,8 +31,7 @@ impl<'a, T: Drop> List<'a, T> {
     pub fn len(&self) -> usize
         ensures { result ≡ length (held self.now) }
     {
-        // Stays: the smaller of the two, though `used` is never more: no ghost field can say so of what a `&mut` leads to.
-        self.used.min(self.items.len())
+        self.used
     }
 
     // How many elements fit.

@@ -2,6 +2,7 @@
 #![tactic(auto)]
 
 mod record;
+mod search;
 mod tape;
 
 pub use tape::Tape;

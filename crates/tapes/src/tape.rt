@@ -1,12 +1,8 @@
 // The tape: records one behind the other in bytes that the caller lends, of which the last of a replica counts.
-ghost use Rattle.std.specs.Prelude.{◌≡◌, ◌==◌, true, not, length, reverse, position, find, Some, is_ok, slice_index, IfOk};
-ghost use Rattle.std.specs.Option.{option_copied};
-ghost use Rattle.std.specs.Simd.{first_chunks};
-ghost use Rattle.stores.specs.Saved.{after, saved};
-ghost use Rattle.tapes.specs.Records.{marked, Fitting};
-ghost use Rattle.tapes.specs.Tapes.{last_card, inspected, lent, whole, shelf_of, seen, opened, changed, appended};
+ghost use Rattle.std.specs.Prelude.{◌≤◌, length};
 
-use crate::record::{RECORD_SIZE, is_marked, read_card, record_of};
+use crate::record::{RECORD_SIZE, record_of};
+use crate::search::{find_last, inspect};
 use stores::{Card, Store, StoreFault};
 use wire::Replica;
 
@@ -16,46 +12,15 @@ use wire::Replica;
 pub struct Tape<'a> {
     bytes: &'a mut [u8],
     used: usize,
-}
-
-// The place of the first of these records that has no mark.
-fn first_unmarked(records: &[[u8; RECORD_SIZE]]) -> Option<usize>
-    ensures { result ≡ position (λ r. not (marked r)) records.now }
-{
-    records.iter().position(|record| !is_marked(record))
-}
-
-// The last of these records that is of this replica.
-fn last_record(records: &[[u8; RECORD_SIZE]], number: u8) -> Option<&[u8; RECORD_SIZE]>
-    ensures { option_copied result ≡ find (λ r. number == slice_index r 4) (reverse records.now) }
-{
-    records.iter().rev().find(|record| number == record[4])
-}
-
-// The card of the last of these records that is of this replica.
-fn find_last(records: &[[u8; RECORD_SIZE]], number: u8) -> Option<Card>
-    ensures { result ≡ last_card records.now number }
-{
-    last_record(records, number).map(read_card)
-}
-
-// Whether the used bytes are whole records with their marks.
-fn inspect(bytes: &[u8], used: usize) -> Result<(), StoreFault>
-    ensures { result ≡ inspected bytes.now used }
-{
-    let whole = (bytes.len() / RECORD_SIZE) as u64;
-    let bytes = bytes.get(..used).ok_or(StoreFault::Damaged(whole))?;
-    let (records, rest) = bytes.as_chunks::<RECORD_SIZE>();
-    if !rest.is_empty() {
-        return Err(StoreFault::Damaged(records.len() as u64));
-    }
-    match first_unmarked(records) {
-        Some(record) => Err(StoreFault::Damaged(record as u64)),
-        None => Ok(()),
-    }
+    ghost fits: { used ≤ length bytes.now },
 }
 
 impl<'a> Tape<'a> {
+    ghost use Rattle.std.specs.Prelude.{◌≡◌, true, is_ok, IfOk};
+    ghost use Rattle.std.specs.Simd.{first_chunks};
+    ghost use Rattle.tapes.specs.Records.{Fitting};
+    ghost use Rattle.tapes.specs.Tapes.{lent, whole, seen, opened, changed, appended};
+
     // The tape over these bytes, of which so many are used; they stay as they are.
     pub fn open(bytes: &'a mut [u8], used: usize) -> Result<Tape<'a>, StoreFault>
         ensures value { seen result ≡ opened bytes.old used }
@@ -70,8 +35,7 @@ impl<'a> Tape<'a> {
         ensures value { result.now ≡ first_chunks 72 (whole (lent self.now)) self.now.bytes.now }
         ensures count { length result.now ≡ whole (lent self.now) }
     {
-        let used = self.used.min(self.bytes.len());
-        let (records, _) = self.bytes[..used].as_chunks::<RECORD_SIZE>();
+        let (records, _) = self.bytes[..self.used].as_chunks::<RECORD_SIZE>();
         records
     }
 
@@ -93,6 +57,10 @@ impl<'a> Tape<'a> {
 }
 
 impl Store for Tape<'_> {
+    ghost use Rattle.std.specs.Prelude.{◌≡◌};
+    ghost use Rattle.stores.specs.Saved.{after, saved};
+    ghost use Rattle.tapes.specs.Tapes.{lent, shelf_of, changed, appended};
+
     ghost shelf = { λ t. shelf_of (lent t) };
 
     fn load(&self, replica: Replica) -> Option<Card> {

@@ -1,7 +1,7 @@
 -- The used bytes are whole records within the bytes.
 use Rattle.std.proofs.Common.{◌≡◌, ◌%◌, Some, None, arith, rules}
 use Rattle.tapes.proofs.Chunks.{inspected_by}
-use Rattle.tapes.proofs.tape.inspect.Goals as goal
+use Rattle.tapes.proofs.search.inspect.Goals as goal
 
 pub returns-in-Some : goal.returns-in-Some
 returns-in-Some c =
