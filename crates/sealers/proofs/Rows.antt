@@ -44,14 +44,14 @@ genuine_parts b t s g =
     record { party = known.0; low = leb-true (t.party * b.share) s.0 above.0; used = omega arith; inside = omega arith; holds = below.1 }
 
 -- a party that has a seal left, and none but a party has one
-has_seal : (b : Book) (p : ℕ) → (book_seals b p ≡ 0 → ⊥) → (is_some (party_of p) ≡ true) × (next_row b p < end_row b p)
+pub has_seal : (b : Book) (p : ℕ) → (book_seals b p ≡ 0 → ⊥) → (is_some (party_of p) ≡ true) × (next_row b p < end_row b p)
 has_seal b p some =
     ⊎_elim
     (λ e. (e, let h = rw e at some in ⊎_elim (λ lt. lt) (λ le. absurd (h (omega arith))) (cases_lt (next_row b p) (end_row b p))))
     (λ e. absurd (rw e at some refl))
     (cases_Bool (is_some (party_of p)))
 
-party_below : (p : ℕ) → is_some (party_of p) ≡ true → p < 164
+pub party_below : (p : ℕ) → is_some (party_of p) ≡ true → p < 164
 party_below p e = ⊎_elim (λ lt. lt) (λ le. absurd (both_ways (is_some (party_of p)) (grind (arith, nat_tests)) e)) (cases_lt p 164)
 
 -- one row more is used

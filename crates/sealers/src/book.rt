@@ -1,10 +1,10 @@
 // The book: a sealer that writes down each text that it seals.
-ghost use Rattle.std.specs.Prelude.{◌≡◌, ◌<◌};
-ghost use Rattle.sealers.specs.Books.{next_row, end_row, book_desk, Opened};
+ghost use Rattle.std.specs.Prelude.{◌≡◌, ℕ, ◌*◌, ◌≤◌, length, slice_index};
 
 use crate::fault::SealerFault;
+use crate::parties::is_party;
 use crate::sealer::Sealer;
-use wire::{Party, Seal, Text};
+use wire::{Seal, Text};
 
 // Party numbers are below this.
 const PARTIES: usize = 164;
@@ -16,9 +16,14 @@ pub struct Book<'a> {
     rows: &'a mut [Text],
     share: u16,
     used: [u16; 164],
+    ghost sized: { length rows.now ≡ 164 * share },
+    ghost within: { (p : ℕ) → slice_index used p ≤ share },
 }
 
 impl<'a> Book<'a> {
+    ghost use Rattle.std.specs.Prelude.{◌≡◌, ◌<◌};
+    ghost use Rattle.sealers.specs.Books.{next_row, end_row, Opened};
+
     // An empty book over rows that are lent: `share` of them, 1 to 256, for each of 164 party numbers.
     pub fn open(rows: &'a mut [Text], share: u16) -> Result<Book<'a>, SealerFault>
         ensures { Opened rows.old share result }
@@ -38,21 +43,23 @@ impl<'a> Book<'a> {
         requires { party < 164 }
         ensures { result ≡ next_row self.now party }
     {
-        let used = self.used[usize::from(party)].min(self.share);
+        let used = self.used[usize::from(party)];
         usize::from(party) * usize::from(self.share) + usize::from(used)
     }
 
     // The row behind the party's last.
     fn end_row(&self, party: u8) -> usize
+        requires { party < 164 }
         ensures { result ≡ end_row self.now party }
     {
         let share = usize::from(self.share);
-        let end = usize::from(party) * share + share;
-        end.min(self.rows.len())
+        usize::from(party) * share + share
     }
 }
 
 impl Sealer for Book<'_> {
+    ghost use Rattle.sealers.specs.Books.{book_desk};
+
     ghost desk = { book_desk };
 
     fn seal(&mut self, text: Text) -> Result<Seal, SealerFault> {
@@ -66,11 +73,11 @@ impl Sealer for Book<'_> {
     }
 
     fn check(&self, text: Text, seal: Seal) -> bool {
-        if Party::try_from(u64::from(text.party)).is_err() {
+        if !is_party(text.party) {
             return false;
         }
         let first = u64::from(text.party) * u64::from(self.share);
-        let used = (self.next_row(text.party) as u64).min(self.rows.len() as u64);
+        let used = self.next_row(text.party) as u64;
         if !(first..used).contains(&seal.0) {
             return false;
         }
@@ -79,9 +86,9 @@ impl Sealer for Book<'_> {
     }
 
     fn left(&self, party: u8) -> u64 {
-        if Party::try_from(u64::from(party)).is_err() {
+        if !is_party(party) {
             return 0;
         }
-        self.end_row(party).saturating_sub(self.next_row(party)) as u64
+        (self.end_row(party) - self.next_row(party)) as u64
     }
 }

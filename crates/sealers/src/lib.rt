@@ -4,6 +4,7 @@
 mod book;
 mod fault;
 mod keyed;
+mod parties;
 mod sealer;
 
 pub use book::Book;
