@@ -93,7 +93,11 @@ same_stamp s t = s.count == t.count && s.writer == t.writer
 -- one more replica counted with its pair: the highest stamp is kept, of equal stamps the first heard,
 -- and whether all stamps so far agree
 abbrev pub hearing : Line → Replica → Pair → Line
-hearing line from pair = record line { counted = record { 0 = inserted line.counted.0 from.number }; highest = cond (line.counted.0 == 0) pair (cond (above pair.stamp line.highest.stamp) pair line.highest); agree = cond (line.counted.0 == 0) true (line.agree && same_stamp pair.stamp line.highest.stamp) }
+hearing line from pair = record line {
+  counted = record { 0 = inserted line.counted.0 from.number };
+  highest = cond (line.counted.0 == 0) pair (cond (above pair.stamp line.highest.stamp) pair line.highest);
+  agree = cond (line.counted.0 == 0) true (line.agree && same_stamp pair.stamp line.highest.stamp);
+}
 
 -- the write's stamp is taken: its pair in flight, in the next round, and its count the client's last
 abbrev pub stamped : Line → ℕ → Pair → Line

@@ -29,11 +29,11 @@ Verdict = Result Turn Objection
 abbrev pub moves : Line → Option Entry → Verdict
 moves line post = Ok (Moves line post)
 
--- one more than a number of 32 bits, as far as there is one
+-- what goes on with one more than a number of 32 bits, or that the number is too high
 abbrev pub after : ℕ → (ℕ → Verdict) → Verdict
 after n go = cond (nat_lt n 4294967295) (go (n + 1)) (Err TooHigh)
 
--- one more than a number of 32 bits, or that it is too high
+-- one more than a number of 32 bits, as far as there is one
 abbrev pub one_more : ℕ → Result ℕ Objection
 one_more n = cond (nat_lt n 4294967295) (Ok (n + 1)) (Err TooHigh)
 

@@ -2,6 +2,7 @@
 ghost use Rattle.std.specs.Prelude.{◌≡◌};
 ghost use Rattle.clients.specs.Faults.{client_refusal};
 ghost use Rattle.clients.specs.declared.fault.ClientFault.TheVariants.{Sealer};
+ghost use Rattle.refusals.specs.declared.Layer.TheVariants.{Client as TheClient};
 
 use refusals::{Fault, Layer, Refusal};
 use rules::Objection;
@@ -31,11 +32,17 @@ impl Fault for ClientFault {
     ghost refusal = { client_refusal };
 
     fn told(&self) -> Refusal {
-        let (number, client) = match *self {
-            ClientFault::Busy(client) => (7, client),
-            ClientFault::Objects(client, why) => (u8::from(why), client),
-            ClientFault::Sealer(fault) => return fault.told(),
-        };
-        Refusal::new(number, Layer::Client).at(u64::from(client.number()))
+        match *self {
+            ClientFault::Busy(client) => at(client, 7),
+            ClientFault::Objects(client, why) => at(client, u8::from(why)),
+            ClientFault::Sealer(fault) => fault.told(),
+        }
     }
+}
+
+// What this client refuses by this number.
+fn at(client: Client, number: u8) -> Refusal
+    ensures { result ≡ record { number = number; layer = TheClient; place = client.number } }
+{
+    Refusal::new(number, Layer::Client).at(u64::from(client.number()))
 }

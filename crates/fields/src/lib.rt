@@ -13,7 +13,7 @@ use cut::cut;
 pub use numeral::Numeral;
 
 // The lines of a text; a line ends with a line feed or with the text.
-// Stays: a struct over the rest of the text, not the library's `split`: no struct can name the closure that `split` takes.
+// Stays: a struct over the rest of the text, not the library's `split`, which gives one more line behind a last line feed.
 #[derive(Drop)]
 pub struct Lines<'a> {
     rest: &'a [u8],
@@ -46,7 +46,7 @@ impl<'a> Iterator for Lines<'a> {
 }
 
 // The fields of a line; one space stands between two fields.
-// Stays: a struct over the rest of the line, for the same reason as `Lines`.
+// Stays: a type beside `Lines`, since a separator ends a line and stands between fields; and not the library's `split`, which cannot say that it is done.
 #[derive(Drop)]
 pub struct Fields<'a> {
     rest: Option<&'a [u8]>,

@@ -10,7 +10,7 @@ pub trait Numeral: Copy + Display {
     // The number that these bytes write, if it fits.
     ghost written: { List ℕ → Option Self };
 
-    // A value of the type, among all numbers.
+    // Which numbers are values of the type: a law speaks of every number.
     ghost IsValue: { Self → Type 0 };
 
     fn read(field: &[u8]) -> Option<Self>

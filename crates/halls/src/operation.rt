@@ -3,10 +3,10 @@ use wire::Pair;
 
 #[derive(Clone, Copy, PartialEq, Eq, Debug)]
 pub struct Operation {
-    // Stays: a number, since the log is lent, and its lines hold 0 before a client has written them.
+    // Stays: a number: definitions read a line of client 0 behind the end of the log, and there is no such `Client`.
     pub client: u8,
     // whether it writes; if not, it reads
-    // Stays: a flag and no enum with values, since reads and writes keep the same ones.
+    // Stays: a flag and no enum with values: a read has a pair too, once it has ended.
     pub writes: bool,
     // the moments at which it began and ended, counted from 1; no end while it has not ended
     pub began: u32,

@@ -5,7 +5,7 @@ use clients::Line;
 pub struct Seat {
     pub line: Line,
     // its latest operation, by its place in the log
-    // Stays: a place, since the caller lends the log.
+    // Stays: a place in the log and no Option: the stage of the line says whether there is an operation.
     pub operation: u32,
     // the operation whose slip is lodged here
     pub lodged: Option<u32>,

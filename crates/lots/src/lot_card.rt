@@ -4,7 +4,7 @@ ghost use Rattle.std.specs.Prelude.{◌≡◌, true, nat_lt};
 pub mod made;
 
 // A day by its number, at most 65,535; the days are in order.
-// Stays: a type beside `Reason`: one for both would hide behind its parameter all that differs, which is the width, the name of the number, and that days alone have an order.
+// Stays: a type beside `Reason`, each of a few lines: one type by its width would be as long, and a code that has an order would be new.
 #[derive(Clone, Copy, PartialEq, Eq, PartialOrd, Ord, Debug)]
 pub struct Day {
     number: u16,

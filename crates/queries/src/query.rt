@@ -52,7 +52,7 @@ fn two_numbers<A: Numeral, B: Numeral>(mut rest: Fields) -> Option<(A, B)>
 
 impl Query {
     // The question that a line asks: its letter, then its numbers, one space before each, and nothing else.
-    // Stays: a function of bytes, not `FromStr`: a line need not be text.
+    // Stays: a function that answers an Option, not a conversion: a line need not be text, and one thing alone can be wrong with it.
     pub fn read(line: &[u8]) -> Option<Query>
         ensures { result ≡ query_of (fields line.now) }
     {

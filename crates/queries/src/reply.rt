@@ -20,7 +20,7 @@ pub enum Reply {
 }
 
 // The value of this kind that has this word.
-// Stays: the kind's number, not an enum of kinds: each kind has its own number, and a word of no kind is no value.
+// Stays: the kind's number, not an enum of kinds, which would be one more list of them beside the kinds' own numbers.
 fn value(kind: u64, word: Word) -> Option<Reply>
     ensures { result ≡ value_of kind word }
 {

@@ -46,7 +46,7 @@ impl fmt::Display for Layer {
 }
 
 // What is refused, by whom, and where: an entry, a record, a line or a party, else 0.
-// Stays: three numbers as they are printed; what is refused is an enum of each layer, and this is what it tells.
+// Stays: number, layer and place as they are printed, 0 where there is no place: what is refused is an enum of each layer, and this is what it tells.
 #[derive(Clone, Copy, PartialEq, Eq, Debug)]
 pub struct Refusal {
     pub number: u8,

@@ -9,7 +9,7 @@ use std::process::Abort;
 use std::test::Fail;
 use stores::{Cabinet, Card, Store, StoreFault};
 use tapes::Tape;
-use wire::{Pair, Replica, ReplicaSet, Seal, Stamp, UnknownParty};
+use wire::{Pair, Replica, ReplicaSet, Seal, Stamp};
 
 // The record of replica 5 with the card of epoch 258.
 const RECORD: &[u8; 72] = b"BIN1\x05\x01\x09\x00\
@@ -42,10 +42,6 @@ fn card(epoch: u32, ready: bool) -> Card {
     }
 }
 
-fn replica(number: u64) -> Result<Replica, UnknownParty> {
-    Replica::try_from(number)
-}
-
 // In any store a card that was saved is loaded.
 fn save_and_load<S: Store>(
     store: &mut S,
@@ -75,18 +71,23 @@ fn keeps_cards<S: Store>(rt: &impl Abort, store: &mut S, first: Replica, last: R
 #[test]
 fn a_cabinet_keeps_cards(rt: HostRuntime) -> Result<(), Fail> {
     let mut cabinet = Cabinet::new();
-    keeps_cards(&rt, &mut cabinet, replica(0)?, replica(63)?);
+    keeps_cards(
+        &rt,
+        &mut cabinet,
+        Replica::try_from(0)?,
+        Replica::try_from(63)?,
+    );
     assert_eq!(rt; cabinet.left(), None);
     Ok(())
 }
 
 #[test]
 fn a_tape_keeps_cards_until_it_is_full(rt: HostRuntime) -> Result<(), Fail> {
-    let first = replica(0)?;
+    let first = Replica::try_from(0)?;
     let mut bytes = [170; 220];
     let mut tape = Tape::open(&mut bytes, 0)?;
     assert_eq!(rt; tape.left(), Some(3));
-    keeps_cards(&rt, &mut tape, first, replica(63)?);
+    keeps_cards(&rt, &mut tape, first, Replica::try_from(63)?);
     assert_eq!(rt; tape.left(), Some(0));
     assert_eq!(rt; tape.save(first, card(4, true)), Err(StoreFault::NoSave(3)));
     assert_eq!(rt; tape.load(first), Some(card(3, false)), "as it was");
@@ -106,7 +107,7 @@ fn a_tape_keeps_cards_until_it_is_full(rt: HostRuntime) -> Result<(), Fail> {
 
 #[test]
 fn a_record_has_its_layout(rt: HostRuntime) -> Result<(), Fail> {
-    let five = replica(5)?;
+    let five = Replica::try_from(5)?;
     let mut bytes = [170; 72];
     let mut tape = Tape::open(&mut bytes, 0)?;
     tape.save(five, card(258, true))?;
@@ -143,7 +144,7 @@ fn a_damaged_tape_is_refused(rt: HostRuntime) -> Result<(), Fail> {
         Some(StoreFault::Damaged(0)),
         "no mark"
     );
-    let five = replica(5)?;
+    let five = Replica::try_from(5)?;
     Tape::open(&mut bytes, 0)?.save(five, card(1, true))?;
     assert_eq!(rt;
         Tape::open(&mut bytes, 144).err(),

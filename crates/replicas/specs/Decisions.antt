@@ -65,7 +65,11 @@ higher mine other = cond (above other.stamp mine.stamp) other mine
 
 -- the card after the pair of one more member of the previous set: 2f+1 make it ready
 abbrev pub stocked : Rules → Card → Replica → Pair → Card
-stocked rules card from pair = record card { heard = record { 0 = inserted card.heard.0 from.number }; ready = nat_le (quorum_size rules) (count_ones (inserted card.heard.0 from.number)); pair = higher card.pair pair }
+stocked rules card from pair = record card {
+  heard = record { 0 = inserted card.heard.0 from.number };
+  ready = nat_le (quorum_size rules) (count_ones (inserted card.heard.0 from.number));
+  pair = higher card.pair pair;
+}
 
 -- READ and WRITE: an earlier epoch is answered by CONFIG, a later one by BEHIND;
 -- then the replica has to be in its set, and ready

@@ -7,7 +7,7 @@ use kinds::Word;
 use wire::{Configuration, Entry, EntryKind, Pair};
 
 // Who posts an entry, for whom, and to which round and epoch it belongs; the addressee is 0 where any replica may answer.
-// Stays: numbers of parties, since what is answered may come from anybody.
+// Stays: numbers of parties: 0 as the addressee stands for anyone, and an answer goes to whatever number has asked.
 #[derive(Clone, Copy, PartialEq, Eq, Debug)]
 pub struct Heading {
     pub sender: u8,

@@ -10,7 +10,7 @@ use wire::{Seal, Text};
 const PARTIES: usize = 164;
 
 // The rows from party × share on are that party's, one for each seal; the first of them are used.
-// Stays: the caller lends the rows, so a party's are a run of them with a count beside it in place of a `Vec`.
+// Stays: rows that the caller lends and how many of them each party has used, in place of a `Vec` for each party: memory is lent.
 #[derive(Drop)]
 pub struct Book<'a> {
     rows: &'a mut [Text],

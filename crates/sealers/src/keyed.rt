@@ -104,7 +104,7 @@ impl Sealer for Keyed {
 
     fn check(&self, text: Text, seal: Seal) -> bool {
         self.row_of(text.party)
-            .is_some_and(|row| row.seal_of(text).0 == seal.0)
+            .is_some_and(|row| row.seal_of(text) == seal)
     }
 
     fn left(&self, party: u8) -> u64 {

@@ -96,7 +96,7 @@ fn short(bytes: &[u8]) -> u64
 }
 
 // The number that the bytes behind the whole blocks write.
-// Stays: these bytes in a block of zeros took 25.1 ns a text of 14 bytes, a fold over them 19.4 ns, and this 17.3 ns; Rust's own hash takes 16.2 ns.
+// Stays: the bar is 1.05 times Rust's own hash, on texts of 14 bytes; this takes 1.02 to 1.07, a fold over these bytes 1.21, and a block of zeros with them 1.55.
 fn tail(message: &[u8]) -> u64
     ensures value { result ≡ little (behind message.now) }
     ensures small { result < 2 ^ 56 }

@@ -1,6 +1,7 @@
 // The card of a replica: what it keeps over a restart.
 use wire::{Pair, ReplicaSet, Seal};
 
+// Stays: flat, a rule of the project: a card is copied and written to a tape field by field.
 #[derive(Clone, Copy, PartialEq, Eq, Debug)]
 pub struct Card {
     pub epoch: u32,

@@ -7,7 +7,7 @@ use stores::{Card, Store, StoreFault};
 use wire::Replica;
 
 // The first `used` bytes are records, and the rest is room for more.
-// Stays: the caller lends the bytes, so the tape has them and a length beside them in place of a `Vec`.
+// Stays: bytes that the caller lends and how many of them are used, in place of a `Vec`: memory is lent.
 #[derive(Drop)]
 pub struct Tape<'a> {
     bytes: &'a mut [u8],

@@ -27,7 +27,7 @@ pub enum EntryKind {
 }
 
 // A posted entry; a field that a kind does not use is 0.
-// Stays: plain numbers, no parties and no kind: a liar can post any, and they are kept as they came.
+// Stays: plain numbers, no parties and no kind, and flat: a liar can post any nine numbers, and they are kept as they came.
 #[derive(Clone, Copy, PartialEq, Eq, Debug, Default)]
 pub struct Entry {
     pub sender: u8,
