@@ -11,6 +11,7 @@ use sealers::{Sealer, SealerFault};
 use wire::{Client, Entry, Pair, Text};
 
 // Begins a read, or a write of this word, and answers the READ to post; a refusal leaves the line as it was.
+// Stays: client and line apart, here and in the step: the line is the caller's, lent for the call.
 pub fn begin<L: Sealer>(
     client: Client,
     line: &mut Line,
