@@ -56,6 +56,7 @@ impl Rules {
     }
 
     // Whether the party of this number is a client of the hall.
+    // Stays: a number, which a liar may have put into a stamp.
     pub fn has_client(&self, party: u8) -> bool
         ensures { result ≡ is_client self.now party }
     {

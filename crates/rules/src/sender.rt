@@ -6,6 +6,7 @@ use crate::objection::Objection;
 use wire::{Party, Replica, ReplicaSet};
 
 // The replica that sent the entry, if it is in this set.
+// Stays: the sender as a number, here and below, which a liar may have put into an entry.
 pub fn sender_within(set: ReplicaSet, sender: u8) -> Option<Replica>
     ensures { result ≡ sender_within set.0 sender }
 {
