@@ -1,10 +1,9 @@
 -- What a record behind the others makes of the cards of a tape. Assumes nothing.
-use Rattle.std.proofs.Common.{◌≡◌, ℕ, suc, ◌+◌, ◌-◌, ◌*◌, ◌/◌, ◌<◌, ◌≤◌, min, true, false, cond, eqb, ltb, List, [], ◌∷◌, ◌++◌, length, take, drop, find, is_ok, Some, None, Ok, Err, Option, Result, Bool, refl, sym, ap, ◌∙◌, ⊎_elim, add-one, arith, length-append, length-drop, take-append-drop}
+use Rattle.std.proofs.Common.{◌≡◌, ℕ, suc, ◌+◌, ◌-◌, ◌*◌, ◌/◌, ◌≤◌, min, true, false, cond, eqb, ltb, List, [], ◌∷◌, ◌++◌, length, take, drop, find, is_ok, Some, None, Ok, Err, Option, Result, Bool, refl, sym, ap, ◌∙◌, ⊎_elim, add-one, arith, length-append, length-drop, take-append-drop}
 use Rattle.std.specs.Option.{option_map}
 use Rattle.std.specs.Simd.{first_chunks}
-use borrow.Rule.Slice.PartMut.{put_mid}
-use Rattle.std.proofs.lemmas.List.{drop-drop, length-take-le, reverse-append}
-use Rattle.std.proofs.lemmas.Bool.{ltb-true, ltb-false, lt-ltb, eqb-true, eq-eqb, ne_eqb, cond-true, cond-false, cases_Bool}
+use Rattle.std.proofs.lemmas.List.{length-take-le, reverse-append}
+use Rattle.std.proofs.lemmas.Bool.{ltb-true, ltb-false, eqb-true, eq-eqb, ne_eqb, cond-true, cond-false, cases_Bool}
 use Rattle.stores.specs.declared.card.Card.{Card}
 use Rattle.stores.specs.declared.fault.StoreFault.{StoreFault}
 use Rattle.stores.specs.declared.fault.StoreFault.TheVariants.{NoSave}
@@ -43,20 +42,6 @@ module _ (xs : List ℕ) (k n : ℕ) (card : Card) (fit : k * 72 + 72 ≤ length
       ∙ ap (λ rs. option_map (λ r. (decoded r).card) (find (λ r. eqb m (decoded r).replica) rs)) (reverse-append (first_chunks 72 k xs) (encoded n card ∷ []))
       ∙ option_cond _ (eqb m (decoded (encoded n card)).replica)
       ∙ (λ i. cond (eqb m (new i).replica) (Some (new i).card) (found xs m k))
-
--- a write to the 72 bytes behind the first k records
-pub append_more : (l : Lent) (k n : ℕ) (card : Card) (part : List ℕ) → k ≡ whole l → k < length l.bytes / 72 → part ≡ encoded n card
-    → ◌≡◌ {A = Changed} record { answer = Ok tt; tape = record { bytes = put_mid (k * 72) (k * 72 + 72 - k * 72) l.bytes part; used = k * 72 + 72 } } (appended l n card)
-append_more l k n card part same more is =
-    let size : k * 72 + 72 - k * 72 ≡ 72 = omega arith in
-    let bytes : put_mid (k * 72) (k * 72 + 72 - k * 72) l.bytes part ≡ written l.bytes k n card =
-    (λ i. take (k * 72) l.bytes ++ (is i ++ drop (size i) (drop (k * 72) l.bytes)))
-    ∙ ap (λ z. take (k * 72) l.bytes ++ (encoded n card ++ z)) (drop-drop 72 (k * 72) l.bytes) in
-    let less : ltb (whole l) (length l.bytes / 72) ≡ true = ap (λ j. ltb j (length l.bytes / 72)) (sym same) ∙ lt-ltb _ _ more in
-    let ok : List ℕ → ℕ → Changed = λ ys used. record { answer = Ok tt; tape = record { bytes = ys; used = used } } in
-    ap (λ ys. ok ys (k * 72 + 72)) bytes
-    ∙ ap (λ j. ok (written l.bytes j n card) (j * 72 + 72)) same
-    ∙ sym (cond-true _ _ _ less)
 
 -- the choice of a number below 64, before or after that of one number below 64
 swapped : (m n : ℕ) → ltb n 64 ≡ true → (x y : Option Card) → cond (ltb m 64) (cond (eqb m n) x y) None ≡ cond (eqb m n) x (cond (ltb m 64) y None)
