@@ -29,7 +29,7 @@ pub struct Line {
     // whose answers to this round are counted
     pub counted: ReplicaSet,
     // the highest pair heard; while writing and writing back the pair in flight; then the operation's pair
-    // Stays: a pair and no Option: it is the pair in flight in most stages, and `counted` says whether one was heard.
+    // Stays: a pair and no Option: only a round of reading can be without one, and there `counted` says whether one was heard.
     pub highest: Pair,
     // whether all stamps heard in this round agree
     pub agree: bool,

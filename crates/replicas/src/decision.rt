@@ -111,7 +111,7 @@ pub fn decide(
     let answer = Heading::answering(me, &entry);
     let is_member = card.set.contains(replica);
     let is_shown = entry.configuration().set.contains(replica);
-    // Stays: one match with guards, a rule of the project: whoever reads the protocol finds every check of a replica here, in its order.
+    // Stays: one match with guards, a rule of the project: whoever reads the protocol finds the checks of a replica here, in their order; those of an awaited STOCK are in `stock_from`.
     match EntryKind::try_from(entry.kind) {
         Ok(EntryKind::Read | EntryKind::Write) if entry.epoch < card.epoch => {
             posts(configured(me, EntryKind::Config, present(card)))
