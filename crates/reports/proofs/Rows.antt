@@ -10,9 +10,6 @@ pub record Sofar (text : List ℕ) (left : List (List ℕ)) (out : List ℕ) (va
   pub answered : values + replies left ≡ replies (lines text)
   pub turned : refusals + refused left ≡ refused (lines text)
 
-pub none_yet : (text : List ℕ) → Sofar text (lines text) [] 0 0
-none_yet text = record { written = refl; answered = omega arith; turned = omega arith }
-
 -- the lines that are left, as they are found to be
 pub left_as : {text out : List ℕ} {ls : List (List ℕ)} {values refusals : ℕ} (left : List (List ℕ)) → Sofar text ls out values refusals → ls ≡ left → Sofar text left out values refusals
 left_as {text} {out} {ls} {values} {refusals} left h e = subst (λ x. Sofar text x out values refusals) e h
