@@ -16,7 +16,7 @@ pub data Asks (c r : ℕ) (x : Entry) : Type 0 where
   by_read : {e : ℕ} → ReadEntry c r e x → Asks c r x
   by_write : {e s : ℕ} → WriteEntry c r e s x → Asks c r x
 
-asks_fresh : {v : Views} {x : Entry} {h : List Entry} {c r : ℕ} → Asks c r x → Justified v x h → Fresh h c r
+pub asks_fresh : {v : Views} {x : Entry} {h : List Entry} {c r : ℕ} → Asks c r x → Justified v x h → Fresh h c r
 asks_fresh (by_read k) j = j.read k
 asks_fresh (by_write k) j = j.write k
 

@@ -269,7 +269,7 @@ module _ (kind : ℕ) (sealed : List Text) (w : World) (holds : Holds kind seale
       post_limit = rw (places_added w.hall.post read post_room) s.post_limit;
       log_limit = rw (places_added w.hall.log (new_operation client.number word (w.hall.moment + 1)) log_room) s.log_limit;
     };
-    roll = let r = holds.roll in record { sound = r.sound; some = r.some; first = r.first; epochs = r.epochs; source = r.source };
+    roll = let r = holds.roll in record { sound = r.sound; some = r.some; first = r.first; epochs = r.epochs; source = r.source; inside = r.inside };
     good = subst (λ h. Good (views w.hall) h) (sym (history_added w.hall read))
         (next (justified_read shape (record { reads = λ p. fresh ((holds.seats client.number low high).reads p); writes = λ p. fresh ((holds.seats client.number low high).writes p) })) holds.good);
     answers = answers_posted kind w (begin_world w client word open_place given) read later_begun refl (no_answer kind _ _ (λ e. omega arith) (λ e. omega arith)) holds.answers;

@@ -54,10 +54,10 @@ turned w kind client e line post seals stepped = by_verdict (decided w.hall.rule
 moves_line : {a c : Line} {b d : Option Entry} → Moves a b ≡ Moves c d → a ≡ c
 moves_line p = cc
 
-stamps_line : {a c : Line} → Stamps a ≡ Stamps c → a ≡ c
+pub stamps_line : {a c : Line} → Stamps a ≡ Stamps c → a ≡ c
 stamps_line p = cc
 
-not_moves : {P : Type 0} {a c : Line} {b : Option Entry} → Stamps a ≡ Moves c b → P
+pub not_moves : {P : Type 0} {a c : Line} {b : Option Entry} → Stamps a ≡ Moves c b → P
 not_moves p = let z : ◌≡◌ {A = ℕ} 0 1 = cc in absurd (omega arith)
 
 -- what became of the operation of the client's seat
@@ -167,7 +167,7 @@ module _ {kind : ℕ} {w : World} (client : Client) (seat : Seat) (rule : SeatRu
   line_change {line = line} (moved_to turn (goes_on h shut t) is) = same_stage _ _ line (ap (λ l. l.stage) (sym (moves_line (sym t ∙ is))))
   line_change {line = line} (moved_to turn (reads_again h s t) is) = to_reading _ _ line (ap (λ l. l.stage) (sym (moves_line (sym t ∙ is))))
   line_change {line = line} (moved_to turn (writes_again h s t) is) = same_stage _ _ line (ap (λ l. l.stage) (sym (moves_line (sym t ∙ is))) ∙ sym s)
-  line_change {line = line} (moved_to turn (replies t) is) = same_stage _ _ line (ap (λ l. l.stage) (sym (moves_line (sym t ∙ is))))
+  line_change {line = line} (moved_to turn (replies k t) is) = same_stage _ _ line (ap (λ l. l.stage) (sym (moves_line (sym t ∙ is))))
   line_change (stamped_to turn next seal (counts_pair from h few t) is l) = not_moves (sym is ∙ t)
   line_change (stamped_to turn next seal (ends_read from h large none agree t) is l) = not_moves (sym is ∙ t)
   line_change (stamped_to turn next seal (writes_back from h large none t) is l) = not_moves (sym is ∙ t)
@@ -176,7 +176,7 @@ module _ {kind : ℕ} {w : World} (client : Client) (seat : Seat) (rule : SeatRu
   line_change (stamped_to turn next seal (goes_on h shut t) is l) = not_moves (sym is ∙ t)
   line_change (stamped_to turn next seal (reads_again h s t) is l) = not_moves (sym is ∙ t)
   line_change (stamped_to turn next seal (writes_again h s t) is l) = not_moves (sym is ∙ t)
-  line_change (stamped_to turn next seal (replies t) is l) = not_moves (sym is ∙ t)
+  line_change (stamped_to turn next seal (replies k t) is l) = not_moves (sym is ∙ t)
   line_change {line = line} (stamped_to turn next seal (takes_stamp from word h large some t) is l) =
       stamps_now
       (subst (λ z. (is_over z && not (is_over seat.line.stage)) ≡ false) (sym stage) refl)

@@ -225,7 +225,7 @@ module _ {kind : ℕ} {sealed : List Text} {w : World} (holds : Holds kind seale
       quiet_kept w client.number line kind sealed (Some (write_of client line)) refl (ap (λ s. is_stamping s Writing) at)
       (keeps_rewrite holds client within (seat_of w.hall client.number) own_rule room line refl refl refl refl refl refl
       (known_handed holds small unforged n lt client within (seat_of w.hall client.number) own_rule h) at))
-  by_move turn (replies is) = subst (KeptTurn kind sealed w client) (sym is)
+  by_move turn (replies k is) = subst (KeptTurn kind sealed w client) (sym is)
       (quiet_kept w client.number (line_of w client) kind sealed (Some (config_entry client.number (line_of w client).configuration)) (same_over (line_of w client).stage) (same_stamping (line_of w client).stage)
       (keeps_reply holds small unforged n lt client within (seat_of w.hall client.number) own_rule room))
 

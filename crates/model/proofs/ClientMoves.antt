@@ -88,7 +88,7 @@ pub data ClientMove (rules : Rules) (client : Client) (line : Line) (e : Entry) 
       → turn ≡ Moves (reread (moved_on line e)) (Some (read_of client (reread (moved_on line e)))) → ClientMove rules client line e genuine turn
   writes_again : Configures line e genuine → line.stage ≡ Writing
       → turn ≡ Moves (rewritten (moved_on line e)) (Some (write_of client (rewritten (moved_on line e)))) → ClientMove rules client line e genuine turn
-  replies : turn ≡ Moves line (Some (config_entry client.number line.configuration)) → ClientMove rules client line e genuine turn
+  replies : e.kind ≡ 8 → turn ≡ Moves line (Some (config_entry client.number line.configuration)) → ClientMove rules client line e genuine turn
 
 is_reading_at : (s : Stage) → is_reading s ≡ true → s ≡ Reading
 is_reading_at Idle p = let z : ◌≡◌ {A = ℕ} 0 1 = cc in absurd (omega arith)
@@ -185,11 +185,11 @@ module _ (rules : Rules) (client : Client) (line : Line) (e : Entry) (genuine : 
           (λ full q1. not_ok q1)
       stage_view h Over is q = goes_on h (ap is_open is) (sym (ok_same q))
 
-  behind_view : on_behind client line e ≡ Ok turn → ClientMove rules client line e genuine turn
-  behind_view p =
+  behind_view : e.kind ≡ 8 → on_behind client line e ≡ Ok turn → ClientMove rules client line e genuine turn
+  behind_view k p =
       way (not (is_open line.stage && eqb e.round line.round)) p
       (λ other q. not_ok q)
-      (λ awaited q. replies (sym (ok_same q)))
+      (λ awaited q. replies k (sym (ok_same q)))
 
   kind_view : (o : Option EntryKind) → kind_of e.kind ≡ o → decided_by_kind o rules client line e genuine ≡ Ok turn → ClientMove rules client line e genuine turn
   kind_view None is p = not_ok p
@@ -200,7 +200,7 @@ module _ (rules : Rules) (client : Client) (line : Line) (e : Entry) (genuine : 
   kind_view (Some Ack) is p = ack_view (kind_known _ _ is) p
   kind_view (Some Stock) is p = not_ok p
   kind_view (Some Config) is p = config_view (kind_known _ _ is) p
-  kind_view (Some Behind) is p = behind_view p
+  kind_view (Some Behind) is p = behind_view (kind_known _ _ is) p
 
   -- whatever is decided is one of the moves
   pub client_view : decided rules client line e genuine ≡ Ok turn → ClientMove rules client line e genuine turn

@@ -1,46 +1,30 @@
 -- What a call does to the log: nothing begins or ends, or one operation begins, or one ends.
 -- Told from the calls' definitions, in a world that meets the rules.
-use Rattle.std.proofs.Common.{◌≡◌, ℕ, ◌+◌, ◌-◌, ◌<◌, ◌≤◌, Bool, true, false, cond, not, ◌&&◌, ◌||◌, eqb, ltb, leb, List, length, get_or, set, is_some, Some, None, Ok, Err, Option, Result, sym, refl, ap, ◌∙◌, subst, arith, length-append, length-set, get_or-set_other, get_or-set_same}
+use Rattle.std.proofs.Common.{◌≡◌, ℕ, ◌+◌, ◌-◌, ◌<◌, ◌≤◌, Bool, true, false, cond, List, length, get_or, set, Some, None, Option, sym, refl, ap, ◌∙◌, subst, arith, length-append, length-set, get_or-set_other, get_or-set_same}
 use native.Mathlib.Decide.{ℕ_discrete, dec_lt}
 use borrow.Author.Tests.{clash}
 use Rattle.std.proofs.lemmas.List.{get_or_past}
 use Rattle.kinds.specs.declared.word.Word.{Word}
 use Rattle.wire.specs.declared.entry.Entry.{Entry}
-use Rattle.wire.specs.declared.party.Party.{Party}
-use Rattle.wire.specs.declared.party.Party.TheVariants.{Source as TheSource, Client as AClient, Replica as AReplica}
-use Rattle.wire.specs.declared.set.ReplicaSet.{ReplicaSet}
 use Rattle.wire.specs.declared.text.Text.{Text}
-use Rattle.wire.specs.Entries.{kind_of}
-use Rattle.wire.specs.Sets.{member}
 use Rattle.wire.specs.Parties.{Client}
-use Rattle.clients.specs.declared.fault.ClientFault.{ClientFault}
 use Rattle.clients.specs.declared.line.Line.{Line}
 use Rattle.clients.specs.declared.line.Stage.{Stage}
 use Rattle.clients.specs.declared.line.Stage.TheVariants.{Idle, Reading, Writing, WritingBack, Over}
-use Rattle.clients.specs.Lines.{is_idle, is_open}
-use Rattle.clients.specs.Steps.{Stepped as ClientStepped}
-use Rattle.replicas.specs.declared.fault.ReplicaFault.{ReplicaFault}
-use Rattle.replicas.specs.Steps.{Stepped as ReplicaStepped}
-use Rattle.source.specs.Issued.{signing}
+use Rattle.clients.specs.Lines.{is_open}
 use Rattle.halls.specs.declared.fault.HallFault.{HallFault}
 use Rattle.halls.specs.declared.operation.Operation.{Operation}
 use Rattle.halls.specs.declared.seat.Seat.{Seat}
-use Rattle.model.specs.Tables.{is_full}
-use Rattle.model.specs.Halls.{Hall, World, Kind, no_operation, no_seat, seat_of, operation_of, has_its_tables, party_in, with_seat, with_store, end_of}
-use Rattle.model.specs.Answers.{Answer, done, slip, pair, refused, Outcome, has_moment}
-use Rattle.model.specs.Beginning.{begin_called, begin_by, begin_done, new_operation}
+use Rattle.model.specs.Halls.{Hall, World, Kind, no_operation, no_seat, seat_of, operation_of, end_of}
+use Rattle.model.specs.Answers.{Answer, done, slip, pair, refused}
+use Rattle.model.specs.Beginning.{new_operation}
 use Rattle.model.specs.Calls.{Call, issue, begin_read, begin_write, deliver, call_off, collect, lodge, redeem, meddle, Step}
-use Rattle.model.specs.Delivering.{posting, by_replica, by_client, client_moves, deliver_called, deliver_to, entry_of, fits_client, fits_replica, client_step_of, replica_step_of, client_done, is_over, logged}
-use Rattle.model.specs.Issuing.{issue_called, issue_done, is_right_set, has_too_many_marked}
-use Rattle.model.specs.Meddling.{meddle_called, meddle_by}
-use Rattle.model.specs.Slips.{call_off_called, collect_called, collecting, lodge_called, redeem_called, redeeming, is_its_slip}
+use Rattle.model.specs.Delivering.{client_moves, entry_of, logged}
+use Rattle.model.proofs.Effects.{Effect, stands, issues, starts, client_steps, replica_steps, calls_off, collects_it, lodges, redeems, meddles, BeginCall, answer_is, hall_is, effect_of}
 use Rattle.model.proofs.ClientEvents.{turned, LineChange, unchanged, stamps_now, ends_now, line_change, opens_busy}
 use Rattle.model.proofs.Invariants.{OwnRule, SeatRule, Holds}
-use Rattle.model.proofs.Parties.{client_in}
 use Rattle.model.proofs.Posts.{before_end, at_end}
 use Rattle.model.proofs.SlipKeeps.{seat_same}
-use Rattle.model.proofs.StepKeeps.{became}
-use Rattle.model.proofs.Ways.{way, way_in}
 
 -- nothing began or ended
 pub record SameLog (h h' : Hall) : Type 0 where
@@ -82,11 +66,6 @@ pub record EndedLog (h h' : Hall) (c k : ℕ) : Type 0 where
   pub word : (operation_of h k).writes ≡ true → (operation_of h' k).pair.word ≡ (operation_of h k).pair.word
   pub over : (seat_of h' c).line.stage ≡ Over
   pub seat : (seat_of h' c).operation ≡ k
-
--- the call that begins an operation of client c with this word
-pub data BeginCall {V : Type 0} (kind : Kind V) (call : Call V) (c : ℕ) (word : Option Word) : Type 0 where
-  by_read : call ≡ begin_read c → word ≡ None → BeginCall kind call c word
-  by_write : (v : V) → call ≡ begin_write c v → word ≡ Some (kind.word v) → BeginCall kind call c word
 
 -- a begin that was answered by a slip
 abbrev pub slips : {V : Type 0} → Answer V → Bool
@@ -277,186 +256,54 @@ module _ (kind : ℕ) (sealed : List Text) (w : World) (holds : Holds kind seale
     seat = e.seat;
   })
 
-module _ {V : Type 0} (kind : Kind V) (sealed : List Text) (w : World) (holds : Holds kind.number sealed w) (h' : Hall) where
-  -- the hall is as it was
-  unmoved_event : {a b : Answer V} (call : Call V) → begins_slip call b ≡ false → ◌≡◌ {A = Outcome V} (record { answer = a; hall = w.hall }) (record { answer = b; hall = h' }) → Event kind w.hall h' call b
-  unmoved_event {b = b} call none p = nothing none (subst (λ h. SameLog w.hall h) (became p) (same_log w.hall))
+-- nothing that is refused begins
+pub refused_begins_none : {V : Type 0} (call : Call V) (f : HallFault) → begins_slip call (refused f) ≡ false
+refused_begins_none (issue set) f = refl
+refused_begins_none (begin_read c) f = refl
+refused_begins_none (begin_write c v) f = refl
+refused_begins_none (deliver number party) f = refl
+refused_begins_none (call_off c k) f = refl
+refused_begins_none (collect c k) f = refl
+refused_begins_none (lodge c k) f = refl
+refused_begins_none (redeem c) f = refl
+refused_begins_none (meddle party e) f = refl
 
+module _ {V : Type 0} (kind : Kind V) (sealed : List Text) (w : World) (holds : Holds kind.number sealed w) (call : Call V) (a : Answer V) (h' : Hall) where
   -- another hall with this log
-  other_event : {b : Answer V} (call : Call V) (h : Hall) → begins_slip call b ≡ false → h ≡ h' → SameLog w.hall h → Event kind w.hall h' call b
-  other_event call h none e same = nothing none (subst (λ z. SameLog w.hall z) e same)
+  same_event : {other : Call V} (h : Hall) → call ≡ other → begins_slip other a ≡ false → h ≡ h' → SameLog w.hall h → Event kind w.hall h' call a
+  same_event h is none e same = nothing (ap (λ c. begins_slip c a) is ∙ none) (subst (λ z. SameLog w.hall z) e same)
 
-  refused_begin : {b : Answer V} (f : HallFault) → ◌≡◌ {A = Outcome V} (record { answer = refused f; hall = w.hall }) (record { answer = b; hall = h' }) → slips b ≡ false
-  refused_begin f p = ap (λ o. slips o.answer) (sym p)
-
-  begin_event : (n : ℕ) (word : Option Word) (call : Call V) (b : Answer V) → ((c : ℕ) → c ≡ n → BeginCall kind call c word) → begins_slip call b ≡ slips b
-      → begin_called w n word ≡ record { answer = b; hall = h' } → Event kind w.hall h' call b
-  begin_event n word call b named is_slip p =
-      way (has_its_tables w.hall) p (λ t q. by_party (party_in w.hall.rules n) refl q) (λ t q. no_begin _ q)
+  event_by : Effect kind w call a h' → Event kind w.hall h' call a
+  event_by (stands f is e) = same_event w.hall refl (ap (begins_slip call) is ∙ refused_begins_none call f) e (same_log w.hall)
+  event_by (issues set is allowed p) = same_event _ is refl (hall_is p) (kept_log _ _ refl refl refl refl)
+  event_by (starts client word is allowed p) = begins client.number word is (answer_is p)
+      (subst (λ h. BegunLog w.hall h client.number word) (hall_is p)
+      (record {
+        rules_same = refl;
+        marked_same = refl;
+        longer = length-append w.hall.log.list _;
+        next_moment = refl;
+        old = λ k lt. before_end w.hall.log.list _ no_operation k lt;
+        new = at_end w.hall.log.list _ no_operation;
+      }))
+  event_by (client_steps number client is seated room fits line post seals step answer e) =
+      by_turn (log_turned kind.number sealed w holds client seated.low seated.high line seals post
+      (log_turn kind.number sealed w holds client seated.low seated.high line seals
+      (line_change client (seat_of w.hall client.number) (holds.seats client.number seated.low seated.high)
+      (turned w kind.number client (entry_of w.hall number) line post seals step))))
     where
-      no_begin : (f : HallFault) → ◌≡◌ {A = Outcome V} (record { answer = refused f; hall = w.hall }) (record { answer = b; hall = h' }) → Event kind w.hall h' call b
-      no_begin f q = unmoved_event call (is_slip ∙ refused_begin f q) q
-
-      as_client : (client : Client) → client.number ≡ n → begin_by (Some (AClient client)) client.number w.hall word ≡ record { answer = b; hall = h' } → Event kind w.hall h' call b
-      as_client client number q =
-          way (not (is_idle (seat_of w.hall client.number).line.stage)) q (λ t s. no_begin _ s)
-          (λ idle s. way (is_full w.hall.log || (is_full w.hall.post || not (has_moment w.hall))) s (λ t z. no_begin _ z)
-          (λ room z. way_in (λ b. begin_done b client word w.hall) (not (is_idle (seat_of w.hall client.number).line.stage)) z
-          (λ t y. no_begin _ y)
-          (λ t y. way_in (λ b. begin_done b client word w.hall) (not (ltb (seat_of w.hall client.number).line.round 4294967295)) y
-          (λ u x. no_begin _ x)
-          (λ u x. way_in (λ b. begin_done b client word w.hall) (is_some word && eqb (w.hall.seals client.number) 0) x
-          (λ v d. no_begin _ d)
-          (λ v d. begins client.number word (named client.number number) (sym (ap (λ o. o.answer) d))
-          (subst (λ h. BegunLog w.hall h client.number word) (became d)
-          (record {
-            rules_same = refl;
-            marked_same = refl;
-            longer = length-append w.hall.log.list _;
-            next_moment = refl;
-            old = λ k lt. before_end w.hall.log.list _ no_operation k lt;
-            new = at_end w.hall.log.list _ no_operation;
-          })))))))
-
-      by_party : (o : Option Party) → party_in w.hall.rules n ≡ o → begin_by o n w.hall word ≡ record { answer = b; hall = h' } → Event kind w.hall h' call b
-      by_party None is q = no_begin _ q
-      by_party (Some TheSource) is q = no_begin _ q
-      by_party (Some (AReplica r)) is q = no_begin _ q
-      by_party (Some (AClient client)) is q =
-          let c = client_in w.hall.rules n client is in
-          as_client client c.number (subst (λ m. begin_by (Some (AClient client)) m w.hall word ≡ record { answer = b; hall = h' }) (sym c.number) q)
-
-  deliver_event : (number party : ℕ) (b : Answer V) → deliver_called w kind.number number party ≡ record { answer = b; hall = h' } → Event kind w.hall h' (deliver number party) b
-  deliver_event number party b p =
-      way (has_its_tables w.hall) p
-      (λ t q. way (not (ltb number (length w.hall.post.list))) q (λ u s. stayed s)
-      (λ u s. by_party (party_in w.hall.rules party) refl s))
-      (λ t q. stayed q)
-    where
-      call : Call V
-      call = deliver number party
-
-      stayed : {a : Answer V} → ◌≡◌ {A = Outcome V} (record { answer = a; hall = w.hall }) (record { answer = b; hall = h' }) → Event kind w.hall h' (deliver number party) b
-      stayed q = unmoved_event (deliver number party) refl q
-
-      by_saved : (s : ReplicaStepped) (o : Result (Option Entry) ReplicaFault) → by_replica o s.place s.saves number w.hall ≡ record { answer = b; hall = h' } → Event kind w.hall h' (deliver number party) b
-      by_saved s (Err fault) z = stayed z
-      by_saved s (Ok None) z = other_event (deliver number party) (with_store w.hall s.place s.saves) refl (became z)
-          (kept_log _ _ refl refl refl refl)
-      by_saved s (Ok (Some x)) z = other_event (deliver number party) (posting (with_store w.hall s.place s.saves) (Some x)) refl (became z)
-          (kept_log _ _ refl refl refl refl)
-
-      to_client : (client : Client) → 1 ≤ client.number → client.number ≤ w.hall.rules.clients
-          → (s : ClientStepped) → client_step_of w kind.number client (entry_of w.hall number) ≡ s → client_done s number w.hall client ≡ record { answer = b; hall = h' } → Event kind w.hall h' (deliver number party) b
-      to_client client low high s is q = by_answer s.answer refl q
-        where
-          by_answer : (o : Result (Option Entry) ClientFault) → s.answer ≡ o → by_client o s.line s.seals number w.hall client ≡ record { answer = b; hall = h' } → Event kind w.hall h' (deliver number party) b
-          by_answer (Err fault) said z = stayed z
-          by_answer (Ok post) said z =
-              by_turn (log_turned kind.number sealed w holds client low high s.line s.seals post
-              (log_turn kind.number sealed w holds client low high s.line s.seals
-              (line_change client (seat_of w.hall client.number) (holds.seats client.number low high)
-              (turned w kind.number client (entry_of w.hall number) s.line post s.seals (is ∙ λ i. record { answer = said i; line = s.line; seals = s.seals })))))
-            where
-              by_turn : LogTurned kind.number sealed w holds client low high s.line s.seals post → Event kind w.hall h' (deliver number party) b
-              by_turn (stays_so same) = nothing refl (subst (λ h. SameLog w.hall h) (became z) same)
-              by_turn (closes_so e) = ends client.number (seat_of w.hall client.number).operation low high refl (subst (λ h. EndedLog w.hall h client.number (seat_of w.hall client.number).operation) (became z) e)
-
-      by_party : (o : Option Party) → party_in w.hall.rules party ≡ o → deliver_to o w kind.number number (entry_of w.hall number) ≡ record { answer = b; hall = h' } → Event kind w.hall h' (deliver number party) b
-      by_party None is q = stayed q
-      by_party (Some TheSource) is q = way (is_full w.hall.post || not (has_moment w.hall)) q (λ u s. stayed s) (λ u s. stayed s)
-      by_party (Some (AClient client)) is q =
-          let c = client_in w.hall.rules party client is in
-          way (is_full w.hall.post || not (has_moment w.hall)) q (λ u s. stayed s)
-          (λ room s. way (not (fits_client (kind_of (entry_of w.hall number).kind) (entry_of w.hall number) client)) s (λ u z. stayed z)
-          (λ fits z. to_client client (subst (λ m. 1 ≤ m) (sym c.number) c.low) (subst (λ m. m ≤ w.hall.rules.clients) (sym c.number) c.high)
-          (client_step_of w kind.number client (entry_of w.hall number)) refl z))
-      by_party (Some (AReplica r)) is q =
-          way (is_full w.hall.post || not (has_moment w.hall)) q (λ u s. stayed s)
-          (λ room s. way (not (fits_replica (kind_of (entry_of w.hall number).kind) (entry_of w.hall number) r)) s (λ u z. stayed z)
-          (λ fits z. by_saved (replica_step_of w kind.number r (entry_of w.hall number)) _ z))
-
-  issue_event : (set : ReplicaSet) (b : Answer V) → issue_called w set ≡ record { answer = b; hall = h' } → Event kind w.hall h' (issue set) b
-  issue_event set b p =
-      way (has_its_tables w.hall) p
-      (λ t q. way (not (is_right_set w.hall.rules set.0)) q (λ u s. stayed s)
-      (λ right s. way (has_too_many_marked w.hall.rules w.hall.marked set.0) s (λ u z. stayed z)
-      (λ few z. way (is_full w.hall.roll || is_full w.hall.post) z (λ u y. stayed y)
-      (λ room y. way_in (λ i. issue_done i w.hall) (not (ltb w.hall.source.newest 4294967295)) y (λ u x. stayed x)
-      (λ u x. way_in (λ s. issue_done (signing s w.hall.source set) w.hall) (eqb (w.hall.seals 0) 0) x (λ v d. stayed d)
-      (λ v d. other_event (issue set) _ refl (became d)
-      (kept_log _ _ refl refl refl refl)))))))
-      (λ t q. stayed q)
-    where
-      stayed : {a : Answer V} → ◌≡◌ {A = Outcome V} (record { answer = a; hall = w.hall }) (record { answer = b; hall = h' }) → Event kind w.hall h' (issue set) b
-      stayed q = unmoved_event (issue set) refl q
-
-  meddle_event : (party : ℕ) (e : Entry) (b : Answer V) → meddle_called w party e ≡ record { answer = b; hall = h' } → Event kind w.hall h' (meddle party e) b
-  meddle_event party e b p =
-      way (has_its_tables w.hall) p (λ t q. by_party (party_in w.hall.rules party) q) (λ t q. stayed q)
-    where
-      stayed : {a : Answer V} → ◌≡◌ {A = Outcome V} (record { answer = a; hall = w.hall }) (record { answer = b; hall = h' }) → Event kind w.hall h' (meddle party e) b
-      stayed q = unmoved_event (meddle party e) refl q
-
-      by_party : (o : Option Party) → meddle_by o w.hall party e ≡ record { answer = b; hall = h' } → Event kind w.hall h' (meddle party e) b
-      by_party None q = stayed q
-      by_party (Some TheSource) q = stayed q
-      by_party (Some (AClient client)) q = stayed q
-      by_party (Some (AReplica r)) q =
-          way (not (member w.hall.marked r.number)) q (λ t s. stayed s)
-          (λ t s. way (is_full w.hall.post) s (λ u z. stayed z)
-          (λ u z. other_event (meddle party e) _ refl (became z)
-          (kept_log _ _ refl refl refl refl)))
-
-  -- a call that changes one seat and nothing else
-  seat_event : {b : Answer V} (call : Call V) (c : ℕ) (s : Seat) → begins_slip call b ≡ false → with_seat w.hall c s ≡ h' → Event kind w.hall h' call b
-  seat_event call c s none e = other_event call (with_seat w.hall c s) none e
-      (kept_log _ _ refl refl refl refl)
-
-  call_off_event : (c k : ℕ) (b : Answer V) → call_off_called w c k ≡ record { answer = b; hall = h' } → Event kind w.hall h' (call_off c k) b
-  call_off_event c k b p =
-      way (has_its_tables w.hall) p
-      (λ t q. way (not (is_its_slip w.hall c k)) q (λ u s. unmoved_event (call_off c k) refl s)
-      (λ u s. way (is_over (seat_of w.hall c).line.stage) s (λ v z. unmoved_event (call_off c k) refl z)
-      (λ v z. seat_event (call_off c k) c _ refl (became z))))
-      (λ t q. unmoved_event (call_off c k) refl q)
-
-  collect_event : (c k : ℕ) (b : Answer V) → collect_called kind w c k ≡ record { answer = b; hall = h' } → Event kind w.hall h' (collect c k) b
-  collect_event c k b p =
-      way (has_its_tables w.hall) p
-      (λ t q. way (not (is_its_slip w.hall c k)) q (λ u s. unmoved_event (collect c k) refl s)
-      (λ u s. way (not (is_over (seat_of w.hall c).line.stage)) s (λ v z. unmoved_event (collect c k) refl z)
-      (λ v z. by_value (kind.value (seat_of w.hall c).line.highest.word) z)))
-      (λ t q. unmoved_event (collect c k) refl q)
-    where
-      by_value : (o : Option V) → collecting o w.hall c (seat_of w.hall c).line.highest ≡ record { answer = b; hall = h' } → Event kind w.hall h' (collect c k) b
-      by_value None z = unmoved_event (collect c k) refl z
-      by_value (Some v) z = seat_event (collect c k) c _ refl (became z)
-
-  lodge_event : (c k : ℕ) (b : Answer V) → lodge_called w c k ≡ record { answer = b; hall = h' } → Event kind w.hall h' (lodge c k) b
-  lodge_event c k b p =
-      way (has_its_tables w.hall) p
-      (λ t q. way (not (is_its_slip w.hall c k)) q (λ u s. unmoved_event (lodge c k) refl s) (λ u s. seat_event (lodge c k) c _ refl (became s)))
-      (λ t q. unmoved_event (lodge c k) refl q)
-
-  redeem_event : (c : ℕ) (b : Answer V) → redeem_called w c ≡ record { answer = b; hall = h' } → Event kind w.hall h' (redeem c) b
-  redeem_event c b p =
-      way (has_its_tables w.hall) p
-      (λ t q. way (leb 1 c && leb c w.hall.rules.clients) q (λ u s. by_lodged (seat_of w.hall c).lodged s) (λ u s. unmoved_event (redeem c) refl s))
-      (λ t q. unmoved_event (redeem c) refl q)
-    where
-      by_lodged : (o : Option ℕ) → redeeming o w.hall c ≡ record { answer = b; hall = h' } → Event kind w.hall h' (redeem c) b
-      by_lodged None s = unmoved_event (redeem c) refl s
-      by_lodged (Some k) s = seat_event (redeem c) c _ refl (became s)
+      by_turn : LogTurned kind.number sealed w holds client seated.low seated.high line seals post → Event kind w.hall h' call a
+      by_turn (stays_so same) = same_event _ is refl e same
+      by_turn (closes_so closed) = ends client.number (seat_of w.hall client.number).operation seated.low seated.high (ap (λ c. begins_slip c a) is)
+          (subst (λ h. EndedLog w.hall h client.number (seat_of w.hall client.number).operation) e closed)
+  event_by (replica_steps number party r is inside room fits place saves None step answer e) = same_event _ is refl e (kept_log _ _ refl refl refl refl)
+  event_by (replica_steps number party r is inside room fits place saves (Some x) step answer e) = same_event _ is refl e (kept_log _ _ refl refl refl refl)
+  event_by (calls_off c k is its unended answer e) = same_event _ is refl e (kept_log _ _ refl refl refl refl)
+  event_by (collects_it c k u is its over answer e) = same_event _ is refl e (kept_log _ _ refl refl refl refl)
+  event_by (lodges c k is its answer e) = same_event _ is refl e (kept_log _ _ refl refl refl refl)
+  event_by (redeems c k is seated answer e) = same_event _ is refl e (kept_log _ _ refl refl refl refl)
+  event_by (meddles party x r is inside marked room answer e) = same_event _ is refl e (kept_log _ _ refl refl refl refl)
 
 -- what any call does to the log
 pub event_of : {V : Type 0} (kind : Kind V) (sealed : List Text) (w w' : World) (call : Call V) (a : Answer V) → Holds kind.number sealed w → Step kind w call a w' → Event kind w.hall w'.hall call a
-event_of kind sealed w w' (issue set) a holds step = issue_event kind sealed w holds w'.hall set a (sym step.outcome)
-event_of kind sealed w w' (begin_read c) a holds step = begin_event kind sealed w holds w'.hall c None (begin_read c) a (λ d e. by_read (ap begin_read (sym e)) refl) refl (sym step.outcome)
-event_of kind sealed w w' (begin_write c v) a holds step = begin_event kind sealed w holds w'.hall c (Some (kind.word v)) (begin_write c v) a (λ d e. by_write v (ap (λ z. begin_write z v) (sym e)) refl) refl (sym step.outcome)
-event_of kind sealed w w' (deliver number party) a holds step = deliver_event kind sealed w holds w'.hall number party a (sym step.outcome)
-event_of kind sealed w w' (call_off c k) a holds step = call_off_event kind sealed w holds w'.hall c k a (sym step.outcome)
-event_of kind sealed w w' (collect c k) a holds step = collect_event kind sealed w holds w'.hall c k a (sym step.outcome)
-event_of kind sealed w w' (lodge c k) a holds step = lodge_event kind sealed w holds w'.hall c k a (sym step.outcome)
-event_of kind sealed w w' (redeem c) a holds step = redeem_event kind sealed w holds w'.hall c a (sym step.outcome)
-event_of kind sealed w w' (meddle party e) a holds step = meddle_event kind sealed w holds w'.hall party e a (sym step.outcome)
+event_of kind sealed w w' call a holds step = event_by kind sealed w holds call a w'.hall (effect_of kind w a w'.hall call (sym step.outcome))

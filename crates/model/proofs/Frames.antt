@@ -41,7 +41,7 @@ unfolding history
 history_added h x = reverse-append h.post.list (x ∷ [])
 
 -- what stands at a place of a history was posted
-posted_at : (h : List Entry) (i : ℕ) (d : Entry) → i < length h → Posted (λ y. y ≡ get_or h i d) h
+pub posted_at : (h : List Entry) (i : ℕ) (d : Entry) → i < length h → Posted (λ y. y ≡ get_or h i d) h
 posted_at [] i d lt = absurd (omega arith)
 posted_at (x ∷ h) zero d lt = here refl
 posted_at (x ∷ h) (suc i) d lt = there (posted_at h i d (omega arith))

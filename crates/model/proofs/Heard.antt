@@ -17,7 +17,7 @@ use Rattle.quorums.specs.Quorums.{Honest}
 use Rattle.quorums.proofs.Insertion.{none_in_empty, inserted_cases}
 use Rattle.histories.specs.Places.{Posted}
 use Rattle.histories.specs.Places.Somewhere.{here, there}
-use Rattle.histories.specs.Shapes.{ReadEntry, PairEntry, AckEntry}
+use Rattle.histories.specs.Shapes.{ReadEntry, WriteEntry, PairEntry, AckEntry}
 use Rattle.histories.specs.Histories.{Served, Good}
 use Rattle.histories.specs.Histories.Serves.{by_pair}
 use Rattle.histories.specs.Reads.{Answered}
@@ -52,6 +52,10 @@ sent_by set sender from p = way (leb 100 sender && member set (sender - 100)) p 
 pair_served : {q e t : ℕ} {h : List Entry} → Posted (PairEntry q e t) h → Served h q e t
 pair_served (here p) = here (by_pair p)
 pair_served (there s) = there (pair_served s)
+
+-- the READ of the round that is open
+pub read_posted : {kind : ℕ} {w : World} {c : ℕ} {seat : Seat} → ReadingRule kind w c seat → Posted (ReadEntry c seat.line.round seat.line.configuration.epoch) (history w.hall)
+read_posted {w = w} {c = c} {seat = seat} r = subst (Posted (ReadEntry c seat.line.round seat.line.configuration.epoch)) (sym r.splits) (somewhere_grows (beneath_append r.newer (r.read ∷ r.older)) (here r.asked))
 
 -- a set with a member is not empty
 pub not_empty : (s n : ℕ) → member s n ≡ true → s ≡ 0 → ⊥
@@ -102,6 +106,31 @@ module _ {kind : ℕ} {sealed : List Text} {w : World} (holds : Holds kind seale
         agreed = λ e s. (and_parts agree (same_stamp pair.stamp highest.stamp) e).0;
       }
 
+  -- an honest replica that answers the READ of a round, or its WRITE, does so in the epoch of that round
+  module _ (n : ℕ) (lt : n < length w.hall.post.list) {q c r : ℕ} (from : (entry_of w.hall n).sender ≡ 100 + q) (to : (entry_of w.hall n).addressee ≡ c) (in_round : (entry_of w.hall n).round ≡ r) (honest : Honest (views w.hall) q) where
+    pub pair_epoch : {e : ℕ} → (entry_of w.hall n).kind ≡ 4 → Posted (ReadEntry c r e) (history w.hall) → (entry_of w.hall n).epoch ≡ e
+    pair_epoch kind_is asked =
+        let x = entry_of w.hall n in
+        let f = found (posted_entry w.hall n lt) holds.good in
+        let is = f.seen in
+        let rule = f.ruled.pair {q = q} {e = x.epoch} {s = stamp_number (pair_of x)}
+        (record { sender = ap (λ y. y.sender) is ∙ from; kind = ap (λ y. y.kind) is ∙ kind_is; epoch = ap (λ y. y.epoch) is; stamp = ap (λ y. y.count * 256 + y.writer) is }) honest in
+        one_read holds.good
+        (posted_map (λ y a. record { client = a.client; sender = a.sender; kind = a.kind; round = a.round; epoch = a.epoch })
+        (subst (λ m. Posted (ReadEntry c m x.epoch) (history w.hall)) (ap (λ y. y.round) is ∙ in_round)
+        (subst (λ d. Posted (ReadEntry d f.entry.round x.epoch) (history w.hall)) (ap (λ y. y.addressee) is ∙ to)
+        (somewhere_grows (beneath_rest f.place) rule.asked))))
+        asked
+
+    pub ack_epoch : {e s : ℕ} → (entry_of w.hall n).kind ≡ 5 → Posted (WriteEntry c r e s) (history w.hall) → (entry_of w.hall n).epoch ≡ e
+    ack_epoch kind_is asked =
+        let x = entry_of w.hall n in
+        let f = found (posted_entry w.hall n lt) holds.good in
+        let is = f.seen in
+        let rule = f.ruled.ack {q = q} {e = x.epoch} {c = c} {r = r}
+        (record { sender = ap (λ y. y.sender) is ∙ from; kind = ap (λ y. y.kind) is ∙ kind_is; addressee = ap (λ y. y.addressee) is ∙ to; round = ap (λ y. y.round) is ∙ in_round; epoch = ap (λ y. y.epoch) is }) honest in
+        (one_write holds.good (somewhere_grows (beneath_rest f.place) rule.asked) asked).epochs
+
   module _ (small : kind ≤ 63) (unforged : UnforgedNow kind sealed w) (n : ℕ) (lt : n < length w.hall.post.list) (c : ℕ) (to : (entry_of w.hall n).addressee ≡ c) (seat : Seat) (from : Replica) where
     -- a PAIR is heard
     module _ (h : Hears seat.line (entry_of w.hall n) (genuine_entry w.hall.rules kind w.genuine (entry_of w.hall n)) from) (r : ReadingRule kind w c seat) where
@@ -114,27 +143,9 @@ module _ {kind : ℕ} {sealed : List Text} {w : World} (holds : Holds kind seale
       pair_known : KnownPair w.hall (pair_of (entry_of w.hall n))
       pair_known = checked_pair kind sealed w small holds unforged n lt (ap (λ k. text_by_kind (kind_of k) kind (entry_of w.hall n)) h.kind) pair_genuine
 
-      read_posted : Posted (ReadEntry c seat.line.round seat.line.configuration.epoch) (history w.hall)
-      read_posted = subst (Posted (ReadEntry c seat.line.round seat.line.configuration.epoch)) (sym r.splits) (somewhere_grows (beneath_append r.newer (r.read ∷ r.older)) (here r.asked))
-
-      -- an honest sender has answered the READ of this round, and so in its epoch
-      same_epoch : Honest (views w.hall) from.number → (entry_of w.hall n).epoch ≡ seat.line.configuration.epoch
-      same_epoch honest =
-          let x = entry_of w.hall n in
-          let f = found (posted_entry w.hall n lt) holds.good in
-          let is = f.seen in
-          let rule = f.ruled.pair {q = from.number} {e = x.epoch} {s = stamp_number (pair_of x)}
-          (record { sender = ap (λ y. y.sender) is ∙ by.number; kind = ap (λ y. y.kind) is ∙ h.kind; epoch = ap (λ y. y.epoch) is; stamp = ap (λ y. y.count * 256 + y.writer) is }) honest in
-          one_read holds.good
-          (posted_map (λ y a. record { client = a.client; sender = a.sender; kind = a.kind; round = a.round; epoch = a.epoch })
-          (subst (λ m. Posted (ReadEntry c m x.epoch) (history w.hall)) (ap (λ y. y.round) is ∙ h.round)
-          (subst (λ d. Posted (ReadEntry d f.entry.round x.epoch) (history w.hall)) (ap (λ y. y.addressee) is ∙ to)
-          (somewhere_grows (beneath_rest f.place) rule.asked))))
-          read_posted
-
       pair_posted : Honest (views w.hall) from.number → Posted (PairTo from.number seat.line.configuration.epoch (stamp_number (pair_of (entry_of w.hall n))) c seat.line.round) (history w.hall)
       pair_posted honest = posted_map (λ y is. record {
-        pair = record { sender = ap (λ z. z.sender) is ∙ by.number; kind = ap (λ z. z.kind) is ∙ h.kind; epoch = ap (λ z. z.epoch) is ∙ same_epoch honest; stamp = ap (λ z. z.count * 256 + z.writer) is };
+        pair = record { sender = ap (λ z. z.sender) is ∙ by.number; kind = ap (λ z. z.kind) is ∙ h.kind; epoch = ap (λ z. z.epoch) is ∙ pair_epoch n lt by.number to h.round honest h.kind (read_posted r); stamp = ap (λ z. z.count * 256 + z.writer) is };
         addressee = ap (λ z. z.addressee) is ∙ to;
         round = ap (λ z. z.round) is ∙ h.round;
       })
@@ -185,23 +196,13 @@ module _ {kind : ℕ} {sealed : List Text} {w : World} (holds : Holds kind seale
       ack_by : SentBy seat.line.configuration.set.0 (entry_of w.hall n).sender from
       ack_by = sent_by seat.line.configuration.set.0 (entry_of w.hall n).sender from h.inside
 
-      -- an honest sender has answered the WRITE of this round, and so in its epoch
-      ack_epoch : Honest (views w.hall) from.number → (entry_of w.hall n).epoch ≡ seat.line.configuration.epoch
-      ack_epoch honest =
-          let x = entry_of w.hall n in
-          let f = found (posted_entry w.hall n lt) holds.good in
-          let is = f.seen in
-          let rule = f.ruled.ack {q = from.number} {e = x.epoch} {c = c} {r = seat.line.round}
-          (record { sender = ap (λ y. y.sender) is ∙ ack_by.number; kind = ap (λ y. y.kind) is ∙ h.kind; addressee = ap (λ y. y.addressee) is ∙ to; round = ap (λ y. y.round) is ∙ h.round; epoch = ap (λ y. y.epoch) is }) honest in
-          (one_write holds.good (somewhere_grows (beneath_rest f.place) rule.asked) r.asked).epochs
-
       ack_posted : Honest (views w.hall) from.number → Posted (AckEntry from.number seat.line.configuration.epoch c seat.line.round) (history w.hall)
       ack_posted honest = posted_map (λ y is. record {
         sender = ap (λ z. z.sender) is ∙ ack_by.number;
         kind = ap (λ z. z.kind) is ∙ h.kind;
         addressee = ap (λ z. z.addressee) is ∙ to;
         round = ap (λ z. z.round) is ∙ h.round;
-        epoch = ap (λ z. z.epoch) is ∙ ack_epoch honest;
+        epoch = ap (λ z. z.epoch) is ∙ ack_epoch n lt ack_by.number to h.round honest h.kind r.asked;
       })
           (posted_entry w.hall n lt)
 

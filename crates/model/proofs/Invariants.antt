@@ -1,6 +1,6 @@
 -- What holds of every world that a run reaches: of its roll, its sealed texts, its cards, its seats and its log.
 -- Nothing here is assumed: `Holds` is proved for the opening, and kept by every call of a run whose seals are not forged.
-use Rattle.std.proofs.Common.{◌≡◌, ℕ, ◌+◌, ◌*◌, ◌<◌, ◌≤◌, min, true, false, List, [], ◌∷◌, ◌++◌, reverse, length, get_or, Some, None}
+use Rattle.std.proofs.Common.{◌≡◌, ℕ, ◌+◌, ◌*◌, ◌^◌, ◌<◌, ◌≤◌, min, true, false, List, [], ◌∷◌, ◌++◌, reverse, length, get_or, Some, None}
 use mathlib.Core.List.{Memᴰ}
 use lib.Count.{ones}
 use Rattle.kinds.specs.declared.word.Word.{Word}
@@ -89,6 +89,8 @@ pub record RollRule (h : Hall) : Type 0 where
   pub first : (issued_as h 0).set.0 ≡ h.rules.first.0
   pub epochs : (e : ℕ) → e < length h.roll.list → (issued_as h e).epoch ≡ e
   pub source : h.source.newest + 1 ≡ length h.roll.list
+  -- every set is one of the hall's replicas
+  pub inside : (e : ℕ) → e < length h.roll.list → (issued_as h e).set.0 < 2 ^ h.rules.replicas
 
 -- of the card of an honest replica q
 pub record CardRule (kind : ℕ) (w : World) (q : ℕ) (card : Card) : Type 0 where

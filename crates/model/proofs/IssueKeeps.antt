@@ -1,6 +1,6 @@
 -- Issue keeps every rule: one more configuration in the roll, its text sealed, CONFIG in the post.
 -- The set has been found right, and roll and post have room.
-use Rattle.std.proofs.Common.{◌≡◌, ℕ, ◌+◌, ◌*◌, ◌<◌, ◌≤◌, Bool, true, false, ◌&&◌, eqb, ◌⊎◌, List, [], ◌∷◌, ◌++◌, length, get_or, sym, refl, ap, ◌∙◌, subst, inl, inr, le_of_eq, arith, length-append, eqb-true, leb-true}
+use Rattle.std.proofs.Common.{◌≡◌, ℕ, ◌+◌, ◌*◌, ◌^◌, ◌<◌, ◌≤◌, Bool, true, false, ◌&&◌, eqb, ◌⊎◌, List, [], ◌∷◌, ◌++◌, length, get_or, sym, refl, ap, ◌∙◌, subst, inl, inr, le_of_eq, arith, length-append, eqb-true, leb-true}
 use Rattle.std.proofs.lemmas.Bool.{not-false}
 use mathlib.Core.List.Memᴰ
 use mathlib.Core.List.{Memᴰ}
@@ -24,6 +24,7 @@ use Rattle.model.specs.Halls.{World, no_configuration, no_entry, seat_of, with_p
 use Rattle.model.specs.Issuing.{is_right_set, has_too_many_marked}
 use Rattle.model.proofs.Frames.{history_added, later_views, later_card, later_seat, later_text}
 use Rattle.model.proofs.Invariants.{views, history, issued_as, Sized, RollRule, KnownText, of_configuration, Holds, Later}
+use Rattle.model.proofs.Opening.{right_below}
 use Rattle.model.proofs.Posts.{before_end, at_end, places_added, answers_posted, no_answer, log_later, seats_begin}
 use Rattle.model.proofs.Ways.{both}
 
@@ -101,12 +102,18 @@ module _ (kind : ℕ) (sealed : List Text) (w : World) (holds : Holds kind seale
     first = ap (λ z. z.set.0) (before_end w.hall.roll.list c no_configuration 0 holds.roll.some) ∙ holds.roll.first;
     epochs = λ e lt. epochs e (by_epoch e lt);
     source = simp length-append (omega (arith, newest, holds.roll.source));
+    inside = λ e lt. inside e (by_epoch e lt);
   }
     where
       epochs : (e : ℕ) → (e < length w.hall.roll.list) ⊎ (length w.hall.roll.list ≡ e) → (get_or (w.hall.roll.list ++ (c ∷ [])) e no_configuration).epoch ≡ e
       epochs e (inl old) = ap (λ z. z.epoch) (before_end w.hall.roll.list c no_configuration e old) ∙ holds.roll.epochs e old
       epochs e (inr new) = subst (λ m. (get_or (w.hall.roll.list ++ (c ∷ [])) m no_configuration).epoch ≡ m) new
           (ap (λ z. z.epoch) (at_end w.hall.roll.list c no_configuration) ∙ new_epoch)
+
+      inside : (e : ℕ) → (e < length w.hall.roll.list) ⊎ (length w.hall.roll.list ≡ e) → (get_or (w.hall.roll.list ++ (c ∷ [])) e no_configuration).set.0 < 2 ^ w.hall.rules.replicas
+      inside e (inl old) = subst (λ z. z.set.0 < 2 ^ w.hall.rules.replicas) (sym (before_end w.hall.roll.list c no_configuration e old)) (holds.roll.inside e old)
+      inside e (inr new) = subst (λ m. (get_or (w.hall.roll.list ++ (c ∷ [])) m no_configuration).set.0 < 2 ^ w.hall.rules.replicas) new
+          (subst (λ z. z.set.0 < 2 ^ w.hall.rules.replicas) (sym (at_end w.hall.roll.list c no_configuration)) (right_below w.hall.rules c.set.0 right))
 
   sized_issued : Sized (issue_world w source c seals open_place genuine given).hall
   sized_issued = let s = holds.sized in record {

@@ -24,12 +24,17 @@ pub mod SlipKeeps
 pub mod IssueKeeps
 pub mod BeginKeeps
 pub mod Parties
+pub mod Effects
 pub mod StepKeeps
 pub mod RunKeeps
 pub mod ClientEvents
 pub mod Events
+pub mod SeatTurns
+pub mod Handing
+pub mod Asked
 pub mod Growing
 pub mod Trace
 pub mod Images
 pub mod Linear
+pub mod Responding
 pub mod InTime

@@ -13,7 +13,8 @@ use Rattle.orders.proofs.Theorem.{stamped_operations_have_an_order}
 use Rattle.model.specs.Halls.{Hall, World, Kind, operation_of, end_of}
 use Rattle.model.specs.Order.{Operation, Ended, Finished, Writes, value_written, newer, held_after, InOrder, Linearizable}
 use Rattle.model.specs.Runs.{Lawful, Opened, Run, Unforged}
-use Rattle.model.proofs.Events.{EndedLog, BeginCall, by_read, by_write, begins_slip, slips}
+use Rattle.model.proofs.Effects.{BeginCall, by_read, by_write}
+use Rattle.model.proofs.Events.{EndedLog, begins_slip, slips}
 use Rattle.model.proofs.Images.{split_from, map_member, comes_from, below, IsBelow, below_only, below_all, below_distinct}
 use Rattle.model.proofs.Growing.{Grows, ended_logged}
 use Rattle.model.proofs.Invariants.{stamp_number, StampedWrite, KnownPair, the_opening, a_write as of_a_write, OverBefore, Holds}

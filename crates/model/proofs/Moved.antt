@@ -217,7 +217,7 @@ module _ {kind : ℕ} {sealed : List Text} {w : World} (holds : Holds kind seale
   unfolding later_moved history
   moved_keeps after enough own log texts = record {
     sized = sized_moved;
-    roll = let r = holds.roll in record { sound = r.sound; some = r.some; first = r.first; epochs = r.epochs; source = r.source };
+    roll = let r = holds.roll in record { sound = r.sound; some = r.some; first = r.first; epochs = r.epochs; source = r.source; inside = r.inside };
     good = subst (Good (views w.hall)) (sym p.past) p.good;
     answers = answers_moved;
     cards = λ q lt. let k = holds.cards q lt in record { card = k.card; kept = k.kept; rule = λ honest. later_card kind q k.card (later_moved seat seals genuine p g grows) (p.quiet_replicas q) (k.rule honest) };

@@ -1,12 +1,15 @@
 -- What an opening leaves meets every rule: nothing is posted, logged or sealed yet.
 -- The world has any sealer and any store that the opening could leave.
-use Rattle.std.proofs.Common.{◌≡◌, ℕ, ◌+◌, ◌*◌, ◌<◌, ◌≤◌, true, false, List, [], ◌∷◌, reverse, length, get_or, sym, refl, ap, ◌∙◌, subst, arith, eq-eqb, eqb-true, leb-true}
+use Rattle.std.proofs.Common.{◌≡◌, ℕ, ◌+◌, ◌*◌, ◌/◌, ◌^◌, ◌<◌, ◌≤◌, true, false, eqb, List, [], ◌∷◌, reverse, length, get_or, sym, refl, ap, ◌∙◌, subst, arith, eq-eqb, eqb-true, leb-true}
+use Rattle.std.proofs.Math.Nat.{lt-div-mul-add, zero-mul}
+use Rattle.std.proofs.lemmas.Nat.{pow_pos}
 use mathlib.Core.List.Memᴰ
 use lib.Bits.{bit_and}
 use lib.Count.{ones}
 use borrow.Author.Tests.{clash, not-false}
 use Rattle.wire.specs.declared.entry.Entry.{Entry}
 use Rattle.wire.specs.declared.pair.Pair.{Pair}
+use Rattle.rules.specs.declared.rules.Rules.{Rules}
 use Rattle.rules.specs.Genuine.{same_pair, opening_pair, first_configuration, genuine_pair}
 use Rattle.clients.specs.declared.line.Stage.{Stage}
 use Rattle.clients.specs.declared.line.Stage.TheVariants.{Idle, Reading, Writing, WritingBack, Over}
@@ -15,6 +18,7 @@ use Rattle.quorums.specs.Quorums.{Sound}
 use Rattle.histories.specs.Places.{Somewhere, here, there, done}
 use Rattle.histories.specs.Histories.{Good}
 use Rattle.model.specs.Halls.{World, Kind, no_configuration}
+use Rattle.model.specs.Issuing.{is_right_set}
 use Rattle.model.specs.Runs.{Opened, first_card, first_seat}
 use Rattle.model.proofs.Invariants.{views, history, issued_as, CardRule, the_opening, SeatRule, ends, Holds}
 use Rattle.model.proofs.Ways.{both}
@@ -40,6 +44,13 @@ nowhere e s = subst stands e (somewhere_stands s)
 pub same_pair_self : (p : Pair) → same_pair p p ≡ true
 same_pair_self p = rw (eq-eqb p.stamp.count p.stamp.count refl, eq-eqb p.stamp.writer p.stamp.writer refl, eq-eqb p.word.0 p.word.0 refl, eq-eqb p.seal.0 p.seal.0 refl)
 
+-- a set that may be issued is one of the hall's replicas
+pub right_below : (rules : Rules) (set : ℕ) → is_right_set rules set ≡ true → set < 2 ^ rules.replicas
+right_below rules set right = omega (arith, lt-div-mul-add {a = set} (pow_pos rules.replicas), none, zero-mul (2 ^ rules.replicas))
+  where
+    none : set / 2 ^ rules.replicas * 2 ^ rules.replicas ≡ 0 * 2 ^ rules.replicas
+    none = ap (λ m. m * 2 ^ rules.replicas) (eqb-true (set / 2 ^ rules.replicas) 0 (both (eqb (ones set) (3 * rules.faults + 1)) (eqb (set / 2 ^ rules.replicas) 0) right).second)
+
 module _ {V : Type 0} (kind : Kind V) (v : V) (w : World) (o : Opened kind v w.hall) where
   one_issued : length w.hall.roll.list ≡ 1
   one_issued = ap length o.roll
@@ -51,6 +62,12 @@ module _ {V : Type 0} (kind : Kind V) (v : V) (w : World) (o : Opened kind v w.h
   unfolding history
   no_history = ap reverse o.post
 
+  zero_epoch : (e : ℕ) → e < length w.hall.roll.list → 0 ≡ e
+  zero_epoch e lt = omega (arith, one_issued)
+
+  set_is : (e : ℕ) → e < length w.hall.roll.list → w.hall.rules.first.0 ≡ (issued_as w.hall e).set.0
+  set_is e lt = sym (ap (λ c. c.set.0) first_issued) ∙ ap (λ n. (issued_as w.hall n).set.0) (zero_epoch e lt)
+
   sound_first : Sound (views w.hall)
   sound_first = record { sized = λ e lt. at_first e lt right; few = λ e lt. few_first e lt low }
     where
@@ -59,12 +76,6 @@ module _ {V : Type 0} (kind : Kind V) (v : V) (w : World) (o : Opened kind v w.h
 
       low : ones (bit_and w.hall.rules.first.0 w.hall.marked) ≤ w.hall.rules.faults
       low = leb-true _ _ (not-false _ o.marked)
-
-      zero : (e : ℕ) → e < length w.hall.roll.list → 0 ≡ e
-      zero e lt = omega (arith, one_issued)
-
-      set_is : (e : ℕ) → e < length w.hall.roll.list → w.hall.rules.first.0 ≡ (issued_as w.hall e).set.0
-      set_is e lt = sym (ap (λ c. c.set.0) first_issued) ∙ ap (λ n. (issued_as w.hall n).set.0) (zero e lt)
 
       at_first : (e : ℕ) → e < length w.hall.roll.list → ones w.hall.rules.first.0 ≡ 3 * w.hall.rules.faults + 1 → ones (issued_as w.hall e).set.0 ≡ 3 * w.hall.rules.faults + 1
       at_first e lt r = subst (λ s. ones s ≡ 3 * w.hall.rules.faults + 1) (set_is e lt) r
@@ -131,6 +142,7 @@ module _ {V : Type 0} (kind : Kind V) (v : V) (w : World) (o : Opened kind v w.h
       first = ap (λ c. c.set.0) first_issued;
       epochs = λ e lt. first_epoch e lt;
       source = omega (arith, one_issued, o.source);
+      inside = λ e lt. subst (λ s. s < 2 ^ w.hall.rules.replicas) (set_is e lt) (right_below w.hall.rules w.hall.rules.first.0 o.first);
     };
     good = subst (λ h. Good (views w.hall) h) (sym no_history) done;
     answers = λ n lt. absurd (none_posted n lt);
@@ -151,7 +163,4 @@ module _ {V : Type 0} (kind : Kind V) (v : V) (w : World) (o : Opened kind v w.h
       none_posted n lt = omega (arith, ap length o.post, lt)
 
       first_epoch : (e : ℕ) → e < length w.hall.roll.list → (issued_as w.hall e).epoch ≡ e
-      first_epoch e lt = ap (λ n. (issued_as w.hall n).epoch) zero ∙ ap (λ c. c.epoch) first_issued ∙ sym zero
-        where
-          zero : e ≡ 0
-          zero = omega (arith, one_issued)
+      first_epoch e lt = ap (λ n. (issued_as w.hall n).epoch) (sym (zero_epoch e lt)) ∙ ap (λ c. c.epoch) first_issued ∙ zero_epoch e lt

@@ -1,11 +1,12 @@
 -- Which party a number names, told from the definition.
 -- Nothing is assumed.
-use Rattle.std.proofs.Common.{◌≡◌, ℕ, ◌+◌, ◌-◌, ◌<◌, ◌≤◌, ◌&&◌, eqb, ltb, leb, Some, None, Option, sym, ap, arith, ltb-true, leb-true}
+use Rattle.std.proofs.Common.{◌≡◌, ℕ, cond, ◌+◌, ◌-◌, ◌<◌, ◌≤◌, ◌&&◌, eqb, ltb, leb, Some, None, Option, sym, ap, arith, le-leb, ltb-true, leb-true, ne_eqb, ◌∙◌}
+use Rattle.std.proofs.lemmas.Bool.{and_from}
 use Rattle.std.specs.Option.{option_map}
 use Rattle.wire.specs.declared.party.Party.{Party}
 use Rattle.wire.specs.declared.party.Party.TheVariants.{Source as TheSource, Client as AClient, Replica as AReplica}
 use Rattle.wire.specs.Parties.{Client, Replica, party_of, client_of, replica_of}
-use Rattle.wire.proofs.Made.{single_number}
+use Rattle.wire.proofs.Made.{single_is, single_number, single_within}
 use Rattle.rules.specs.declared.rules.Rules.{Rules}
 use Rattle.model.specs.Halls.{party_within, party_in}
 use Rattle.model.proofs.Ways.{way, not_some, both}
@@ -98,6 +99,26 @@ client_in rules n c p =
     let number = found.0 in
     let high = inside.1 in
     record { number = number; low = found.1; high = omega arith }
+
+-- the client of a number of the hall
+abbrev pub client_numbered : (n : ℕ) → 1 ≤ n → n ≤ 32 → Client
+client_numbered n low high = record { number = n; ok = and_from (leb 1 n) (leb n 32) (le-leb 1 n low) (le-leb n 32 high) }
+
+pub client_party : (rules : Rules) (client : Client) → client.number ≤ rules.clients → party_in rules client.number ≡ Some (AClient client)
+client_party rules client inside =
+    ap (party_within rules) found ∙ ap (λ b. cond b (Some (AClient client)) None) (le-leb client.number rules.clients inside)
+  where
+    found : party_of client.number ≡ Some (AClient client)
+    found =
+        let n = client.number in
+        let other = cond (leb 100 n && leb n 163) (option_map AReplica (replica_of (n - 100))) None in
+        ap (λ b. cond b (Some TheSource) (cond (leb 1 n && leb n 32) (option_map AClient (client_of n)) other)) (ne_eqb n 0 (λ e. omega (arith, (single_within client).0)))
+        ∙ ap (λ b. cond b (option_map AClient (client_of n)) other) client.ok
+        ∙ ap (option_map AClient) (sym (single_is client))
+
+-- the replica of a number below 64
+abbrev pub replica_numbered : (n : ℕ) → n < 64 → Replica
+replica_numbered n low = record { number = n; ok = and_from (leb 0 n) (leb n 63) (le-leb 0 n (omega arith)) (le-leb n 63 (omega arith)) }
 
 pub replica_in : (rules : Rules) (n : ℕ) (r : Replica) → party_in rules n ≡ Some (AReplica r) → ReplicaIn rules n r
 replica_in rules n r p =

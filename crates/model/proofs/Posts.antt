@@ -166,7 +166,7 @@ pub post_keeps : (kind : ℕ) (sealed : List Text) (w : World) (x : Entry) → H
 unfolding later_posted
 post_keeps kind sealed w x holds room justified answer cards quiet = record {
   sized = sized_posted w x room holds.sized;
-  roll = let r = holds.roll in record { sound = r.sound; some = r.some; first = r.first; epochs = r.epochs; source = r.source };
+  roll = let r = holds.roll in record { sound = r.sound; some = r.some; first = r.first; epochs = r.epochs; source = r.source; inside = r.inside };
   good = subst (λ h. Good (views w.hall) h) (sym (history_added w.hall x)) (next justified holds.good);
   answers = answers_posted kind w (posted_in w x) x l refl answer holds.answers;
   cards = λ q lt. let c = holds.cards q lt in record { card = c.card; kept = c.kept; rule = λ honest. cards q c.card honest (c.rule honest) c.kept };
@@ -228,7 +228,7 @@ aside_keeps kind sealed w seats place saves seals open_place given holds same ca
     post_limit = s.post_limit;
     log_limit = s.log_limit;
   };
-  roll = let r = holds.roll in record { sound = r.sound; some = r.some; first = r.first; epochs = r.epochs; source = r.source };
+  roll = let r = holds.roll in record { sound = r.sound; some = r.some; first = r.first; epochs = r.epochs; source = r.source; inside = r.inside };
   good = holds.good;
   answers = λ n lt. later_answer kind l (entry_of w.hall n) (holds.answers n lt);
   cards = cards;

@@ -16,14 +16,15 @@ use Rattle.model.specs.Delivering.{is_over}
 use Rattle.model.specs.Order.{Operation, a_read, a_write, Ended, collects, value_answered}
 use Rattle.model.specs.Runs.{Lawful, Opened, Run, Unforged}
 use Rattle.model.specs.Slips.{collecting, is_its_slip}
-use Rattle.model.proofs.Events.{Event, nothing, begins, ends, BegunLog, EndedLog, BeginCall, by_read, by_write, begins_slip, slips, event_of}
+use Rattle.model.proofs.Effects.{BeginCall, by_read, by_write}
+use Rattle.model.proofs.Events.{Event, nothing, begins, ends, BegunLog, EndedLog, begins_slip, slips, event_of}
 use Rattle.model.proofs.Growing.{Grows, grows_same, grows_trans, event_grows, ended_logged}
 use Rattle.model.proofs.Invariants.{KnownPair, the_opening, a_write as of_a_write, Holds}
 use Rattle.model.proofs.RunKeeps.{sealed_at, holds_at}
 use Rattle.model.proofs.Ways.{way_in, both, not_some}
 
 -- a begin and its slip tell client and place
-slip_same : {V : Type 0} {c d k j : ℕ} → ◌≡◌ {A = Answer V} (slip c k) (slip d j) → (c ≡ d) × (k ≡ j)
+pub slip_same : {V : Type 0} {c d k j : ℕ} → ◌≡◌ {A = Answer V} (slip c k) (slip d j) → (c ≡ d) × (k ≡ j)
 slip_same p = (cc, cc)
 
 module _ {V : Type 0} (kind : Kind V) (v : V) (start : World) (lawful : Lawful kind) (opened : Opened kind v start.hall) (run : Run kind start) (unforged : Unforged run) where

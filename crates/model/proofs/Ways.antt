@@ -46,3 +46,8 @@ pub not_both : (a b : Bool) → (a && b) ≡ false → a ≡ true → b ≡ fals
 not_both true b e is = e
 not_both false true e is = sym is
 not_both false false e is = refl
+
+-- by a test that may go either way
+pub either : {P : Type 0} (b : Bool) → (b ≡ true → P) → (b ≡ false → P) → P
+either true yes_way no_way = yes_way refl
+either false yes_way no_way = no_way refl

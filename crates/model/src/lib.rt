@@ -2,7 +2,7 @@
 // and what holds of every run of them. Each function here carries one theorem in its contract.
 #![tactic(auto)]
 
-ghost use Rattle.model.specs.Promise.{OneOrder, LogInTime};
+ghost use Rattle.model.specs.Promise.{OneOrder, RoundsEnd, LogInTime};
 
 use kinds::Kind;
 
@@ -10,6 +10,11 @@ use kinds::Kind;
 // and each read gives the last write before it, or the opening value.
 pub fn operations_stand_in_one_order<K: Kind>()
     ensures { OneOrder (record { number = K.Kind.NUMBER; word = K.Kind.word; value = K.Kind.value }) }
+{}
+
+// A round is over once answers to it of 2f+1 different unmarked replicas were handed to its client.
+pub fn rounds_end<K: Kind>()
+    ensures { RoundsEnd (record { number = K.Kind.NUMBER; word = K.Kind.word; value = K.Kind.value }) }
 {}
 
 // The moments in the log keep the order of begins and ends.
