@@ -1,4 +1,4 @@
-// The worked cases of the rules for values and words.
+// The worked cases of the rules for values and words, and for the stamps of writes.
 #![tactic(auto)]
 
 ghost use Rattle.std.specs.Prelude.{◌≡◌, length};
@@ -9,5 +9,5 @@ pub fn worked_cases() -> usize
     ensures count { result ≡ length worked_cases }
     ensures hold { WorkedCasesHold }
 {
-    7
+    8
 }
