@@ -1,0 +1,5 @@
+pub mod Lists
+pub mod Openings
+pub mod Short
+pub mod Full
+pub mod FullScript

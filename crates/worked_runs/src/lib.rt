@@ -1,0 +1,29 @@
+// Runs worked out call by call: they show that the register's promise is not empty.
+#![tactic(auto)]
+
+ghost use Rattle.std.specs.Prelude.{◌≡◌};
+ghost use Rattle.worked_runs.specs.Lists.{EveryListRuns, calls_of};
+ghost use Rattle.worked_runs.specs.Openings.{bin_weights};
+ghost use Rattle.worked_runs.specs.Short.{ShortRun};
+ghost use Rattle.worked_runs.specs.Full.{FullRun};
+ghost use Rattle.worked_runs.specs.FullScript.{FullAnswers, start, script};
+
+use kinds::{BinWeight, Kind};
+
+// From a world in which no seal is genuine yet every list of calls is a run, and one in which no seal is forged.
+pub fn every_list_of_calls_runs<K: Kind>()
+    ensures { EveryListRuns (record { number = K.Kind.NUMBER; word = K.Kind.word; value = K.Kind.value }) }
+{}
+
+// A read of nine calls is answered, and logged, as the rules say.
+pub fn short_run()
+    ensures { ShortRun }
+{}
+
+// Fifty calls, in which a write is overtaken by a change of members and its value is read by another client,
+// are answered as the rules say, and are a run of which the promise speaks.
+pub fn full_run()
+    ensures kind { bin_weights ≡ record { number = ⟦<BinWeight as Kind>⟧.NUMBER; word = ⟦<BinWeight as Kind>⟧.word; value = ⟦<BinWeight as Kind>⟧.value } }
+    ensures answers { FullAnswers }
+    ensures run { FullRun bin_weights start (calls_of script) }
+{}
