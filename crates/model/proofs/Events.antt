@@ -74,6 +74,10 @@ slips (slip c k) = true
 slips (pair p v) = false
 slips (refused f) = false
 
+-- a slip tells its client and its place
+pub slip_same : {V : Type 0} {c d k j : ℕ} → ◌≡◌ {A = Answer V} (slip c k) (slip d j) → (c ≡ d) × (k ≡ j)
+slip_same p = (cc, cc)
+
 abbrev pub begins_slip : {V : Type 0} → Call V → Answer V → Bool
 begins_slip (issue set) a = false
 begins_slip (begin_read c) a = slips a

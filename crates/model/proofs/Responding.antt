@@ -25,8 +25,8 @@ use Rattle.histories.proofs.Places.{posted_map}
 use Rattle.histories.proofs.Rounds.{Asks as AsksIn, by_read, by_write}
 use Rattle.model.specs.Tables.{is_full}
 use Rattle.model.specs.Halls.{Hall, World, Kind, seat_of, operation_of, end_of}
-use Rattle.model.specs.Answers.{Answer, slip}
-use Rattle.model.specs.Calls.{Call, deliver, called}
+use Rattle.model.specs.Answers.{slip}
+use Rattle.model.specs.Calls.{deliver, called}
 use Rattle.model.specs.Delivering.{deliver_called, entry_of, fits_client, is_replica_number}
 use Rattle.model.specs.Order.{Operation, a_read, a_write}
 use Rattle.model.specs.Response.{Asks, AnswersTo, to_read, to_write, LastAsked, UnderWay, Open, Handed, Responsive}
@@ -35,42 +35,17 @@ use Rattle.model.proofs.Asked.{NumberOf, posted_number, asked_rise}
 use Rattle.model.proofs.ClientMoves.{heard}
 use Rattle.model.proofs.ClientStamps.{known_low}
 use Rattle.model.proofs.Closing.{FoundPair, pair_closes}
-use Rattle.model.proofs.Effects.{Effect, stands, issues, starts, client_steps, replica_steps, calls_off, collects_it, lodges, redeems, meddles, answer_is, hall_is, effect_of}
-use Rattle.model.proofs.Events.{begins_slip, slips, refused_begins_none}
+use Rattle.model.proofs.Effects.{Effect, effect_of}
+use Rattle.model.proofs.Events.{begins_slip, slips}
 use Rattle.model.proofs.Frames.{posted_entry}
 use Rattle.model.proofs.Handing.{Counts, post_small, sent_within, move_counts, heeded_pair, heeded_ack, handed_counts}
 use Rattle.model.proofs.Heard.{read_posted, pair_epoch, ack_epoch}
 use Rattle.model.proofs.Invariants.{views, history, issued_as, stamp_number, SeatRule, Holds}
 use Rattle.model.proofs.Parties.{client_numbered, replica_numbered}
 use Rattle.model.proofs.RunKeeps.{sealed_at, holds_at, unforged_at}
-use Rattle.model.proofs.SeatTurns.{Onward, onward_same, onward_trans, SeatTurn, seat_turn, turn_onward, Staying, stays_open, is_ended, is_called_off, turn_staying}
-use Rattle.model.proofs.SlipKeeps.{seat_same}
-use Rattle.model.proofs.Trace.{slip_same, grows, collects_over, ended_valued}
+use Rattle.model.proofs.SeatTurns.{begun_seat, Onward, onward_same, onward_trans, SeatTurn, seat_turn, turn_onward, Staying, stays_open, is_ended, is_called_off, turn_staying}
+use Rattle.model.proofs.Trace.{grows, collects_over, ended_valued}
 use Rattle.model.proofs.Ways.{not_some}
-
--- a call that was answered by this slip began an operation
-record Begun (w : World) (h' : Hall) (c k : ℕ) : Type 0 where
-  low : 1 ≤ c
-  high : c ≤ w.hall.rules.clients
-  stage : (seat_of h' c).line.stage ≡ Reading
-  operation : (seat_of h' c).operation ≡ k
-
-begun_seat : {V : Type 0} {kind : Kind V} {sealed : Rattle.std.proofs.Common.List Rattle.wire.specs.declared.text.Text.Text} {w : World} {call : Call V} {a : Answer V} {h' : Hall} {c k : ℕ} → Holds kind.number sealed w
-    → begins_slip call a ≡ true → a ≡ slip c k → Effect kind w call a h' → Begun w h' c k
-begun_seat {call = call} holds b s (stands f is e) = absurd (clash (sym (ap (begins_slip call) is ∙ refused_begins_none call f) ∙ b))
-begun_seat {a = a} holds b s (issues set is allowed p) = absurd (clash (sym (ap (λ c. begins_slip c a) is) ∙ b))
-begun_seat {w = w} {h' = h'} {k = k} holds b s (starts client word is allowed p) =
-    let same = slip_same (sym (answer_is p) ∙ s) in
-    let there = ap (λ h. seat_of h client.number) (sym (hall_is p)) ∙ seat_same w.hall client.number _ holds.sized allowed.seated.low allowed.seated.high in
-    subst (λ m. Begun w h' m k) same.0
-    (record { low = allowed.seated.low; high = allowed.seated.high; stage = ap (λ z. z.line.stage) there; operation = ap (λ z. z.operation) there ∙ same.1 })
-begun_seat {a = a} holds b s (client_steps number client is seated room fits line post seals step answer e) = absurd (clash (sym (ap (λ c. begins_slip c a) is) ∙ b))
-begun_seat {a = a} holds b s (replica_steps number party r is inside room fits place saves post step answer e) = absurd (clash (sym (ap (λ c. begins_slip c a) is) ∙ b))
-begun_seat {a = a} holds b s (calls_off c k is its unended answer e) = absurd (clash (sym (ap (λ c. begins_slip c a) is) ∙ b))
-begun_seat {a = a} holds b s (collects_it c k u is its over answer e) = absurd (clash (sym (ap (λ c. begins_slip c a) is) ∙ b))
-begun_seat {a = a} holds b s (lodges c k is its answer e) = absurd (clash (sym (ap (λ c. begins_slip c a) is) ∙ b))
-begun_seat {a = a} holds b s (redeems c k is seated answer e) = absurd (clash (sym (ap (λ c. begins_slip c a) is) ∙ b))
-begun_seat {a = a} holds b s (meddles party x r is inside marked room answer e) = absurd (clash (sym (ap (λ c. begins_slip c a) is) ∙ b))
 
 module _ {V : Type 0} (kind : Kind V) (v : V) (start : World) (lawful : Lawful kind) (opened : Opened kind v start.hall) (run : Run kind start) (unforged : Unforged run) where
   abbrev hall_at : ℕ → Hall

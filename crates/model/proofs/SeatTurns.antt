@@ -18,13 +18,14 @@ use Rattle.quorums.specs.Quorums.{Within}
 use Rattle.quorums.proofs.Insertion.{within_self, within_trans, within_inserted}
 use Rattle.halls.specs.declared.seat.Seat.{Seat}
 use Rattle.model.specs.Halls.{Hall, World, Kind, no_seat, seat_of}
-use Rattle.model.specs.Answers.{Answer, done}
+use Rattle.model.specs.Answers.{Answer, done, slip}
 use Rattle.model.specs.Calls.{Call, deliver, call_off}
 use Rattle.model.specs.Delivering.{entry_of, is_over, client_moves}
 use Rattle.model.specs.Slips.{released}
 use Rattle.model.proofs.ClientEvents.{Turned, moved_to, stamped_to, turned}
 use Rattle.model.proofs.ClientMoves.{ClientMove, counts_pair, ends_read, writes_back, takes_stamp, counts_ack, ends_write, goes_on, reads_again, writes_again, replies}
-use Rattle.model.proofs.Effects.{Effect, stands, issues, starts, client_steps, replica_steps, calls_off, collects_it, lodges, redeems, meddles, hall_is}
+use Rattle.model.proofs.Effects.{Effect, stands, issues, starts, client_steps, replica_steps, calls_off, collects_it, lodges, redeems, meddles, answer_is, hall_is}
+use Rattle.model.proofs.Events.{begins_slip, refused_begins_none, slip_same}
 use Rattle.model.proofs.Invariants.{Holds}
 use Rattle.model.proofs.SlipKeeps.{seat_same, seat_other}
 
@@ -213,3 +214,27 @@ turn_staying {call = call} {a = a} {h' = h'} {c = c} {k = k} opens its (turns nu
     by_stage (inr o) = is_ended o (operation ∙ its)
 turn_staying {c = c} opens its (frees (inl off) line) = is_called_off (off.0 ∙ ap (call_off c) its) off.1
 turn_staying opens its (frees (inr shut) line) = absurd (clash (sym shut ∙ opens))
+
+-- a call that was answered by this slip began an operation
+pub record Begun (w : World) (h' : Hall) (c k : ℕ) : Type 0 where
+  pub low : 1 ≤ c
+  pub high : c ≤ w.hall.rules.clients
+  pub stage : (seat_of h' c).line.stage ≡ Reading
+  pub operation : (seat_of h' c).operation ≡ k
+
+pub begun_seat : {V : Type 0} {kind : Kind V} {sealed : List Text} {w : World} {call : Call V} {a : Answer V} {h' : Hall} {c k : ℕ} → Holds kind.number sealed w
+    → begins_slip call a ≡ true → a ≡ slip c k → Effect kind w call a h' → Begun w h' c k
+begun_seat {call = call} holds b s (stands f is e) = absurd (clash (sym (ap (begins_slip call) is ∙ refused_begins_none call f) ∙ b))
+begun_seat {a = a} holds b s (issues set is allowed p) = absurd (clash (sym (ap (λ c. begins_slip c a) is) ∙ b))
+begun_seat {w = w} {h' = h'} {k = k} holds b s (starts client word is allowed p) =
+    let same = slip_same (sym (answer_is p) ∙ s) in
+    let there = ap (λ h. seat_of h client.number) (sym (hall_is p)) ∙ seat_same w.hall client.number _ holds.sized allowed.seated.low allowed.seated.high in
+    subst (λ m. Begun w h' m k) same.0
+    (record { low = allowed.seated.low; high = allowed.seated.high; stage = ap (λ z. z.line.stage) there; operation = ap (λ z. z.operation) there ∙ same.1 })
+begun_seat {a = a} holds b s (client_steps number client is seated room fits line post seals step answer e) = absurd (clash (sym (ap (λ c. begins_slip c a) is) ∙ b))
+begun_seat {a = a} holds b s (replica_steps number party r is inside room fits place saves post step answer e) = absurd (clash (sym (ap (λ c. begins_slip c a) is) ∙ b))
+begun_seat {a = a} holds b s (calls_off c k is its unended answer e) = absurd (clash (sym (ap (λ c. begins_slip c a) is) ∙ b))
+begun_seat {a = a} holds b s (collects_it c k u is its over answer e) = absurd (clash (sym (ap (λ c. begins_slip c a) is) ∙ b))
+begun_seat {a = a} holds b s (lodges c k is its answer e) = absurd (clash (sym (ap (λ c. begins_slip c a) is) ∙ b))
+begun_seat {a = a} holds b s (redeems c k is seated answer e) = absurd (clash (sym (ap (λ c. begins_slip c a) is) ∙ b))
+begun_seat {a = a} holds b s (meddles party x r is inside marked room answer e) = absurd (clash (sym (ap (λ c. begins_slip c a) is) ∙ b))

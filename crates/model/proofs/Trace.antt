@@ -10,22 +10,18 @@ use Rattle.clients.specs.declared.line.Stage.{Stage}
 use Rattle.clients.specs.declared.line.Stage.TheVariants.{Idle, Reading, Writing, WritingBack, Over}
 use Rattle.clients.specs.Lines.{is_idle}
 use Rattle.model.specs.Halls.{Hall, World, Kind, seat_of, operation_of, has_its_tables, end_of}
-use Rattle.model.specs.Answers.{Answer, slip, Outcome}
+use Rattle.model.specs.Answers.{slip, Outcome}
 use Rattle.model.specs.Beginning.{new_operation, word_or_none}
 use Rattle.model.specs.Delivering.{is_over}
 use Rattle.model.specs.Order.{Operation, a_read, a_write, Ended, collects, value_answered}
 use Rattle.model.specs.Runs.{Lawful, Opened, Run, Unforged}
 use Rattle.model.specs.Slips.{collecting, is_its_slip}
 use Rattle.model.proofs.Effects.{BeginCall, by_read, by_write}
-use Rattle.model.proofs.Events.{Event, nothing, begins, ends, BegunLog, EndedLog, begins_slip, slips, event_of}
+use Rattle.model.proofs.Events.{slip_same, Event, nothing, begins, ends, BegunLog, EndedLog, begins_slip, slips, event_of}
 use Rattle.model.proofs.Growing.{Grows, grows_same, grows_trans, event_grows, ended_logged}
 use Rattle.model.proofs.Invariants.{KnownPair, the_opening, a_write as of_a_write, Holds}
 use Rattle.model.proofs.RunKeeps.{sealed_at, holds_at}
 use Rattle.model.proofs.Ways.{way_in, both, not_some}
-
--- a begin and its slip tell client and place
-pub slip_same : {V : Type 0} {c d k j : ℕ} → ◌≡◌ {A = Answer V} (slip c k) (slip d j) → (c ≡ d) × (k ≡ j)
-slip_same p = (cc, cc)
 
 module _ {V : Type 0} (kind : Kind V) (v : V) (start : World) (lawful : Lawful kind) (opened : Opened kind v start.hall) (run : Run kind start) (unforged : Unforged run) where
   abbrev hall_at : ℕ → Hall
