@@ -1,4 +1,5 @@
 // Compares the proved SipHash-2-4 with Rust's own: first the values, then the time on texts of 14 bytes.
+// Ours is a function of the static library and is called; Rust's is timed called as well, and where the compiler may inline it.
 #![allow(deprecated)]
 use std::hash::{Hasher, SipHasher};
 use std::hint::black_box;
@@ -23,6 +24,11 @@ fn rusts(low: u64, high: u64, message: &[u8]) -> u64 {
     let mut hasher = SipHasher::new_with_keys(low, high);
     hasher.write(message);
     hasher.finish()
+}
+
+#[inline(never)]
+fn rusts_called(low: u64, high: u64, message: &[u8]) -> u64 {
+    rusts(low, high, message)
 }
 
 // Numbers that look random, the same at each start (splitmix64).
@@ -75,10 +81,13 @@ fn main() {
     let mut random = Random(1);
     println!("equal on {} messages", compare(&mut random));
     let texts: Vec<[u8; TEXT]> = (0..TEXTS).map(|_| random.bytes(TEXT).try_into().unwrap()).collect();
-    let (mut own, mut rust) = (f64::MAX, f64::MAX);
+    let (mut own, mut called, mut inlined) = (f64::MAX, f64::MAX, f64::MAX);
     for _ in 0..RUNS {
         own = own.min(time(&texts, ours));
-        rust = rust.min(time(&texts, rusts));
+        called = called.min(time(&texts, rusts_called));
+        inlined = inlined.min(time(&texts, rusts));
     }
-    println!("proved {own:.2} ns, Rust {rust:.2} ns a call on {TEXT} bytes, ratio {:.3}", own / rust);
+    println!("proved {own:.2} ns a call on {TEXT} bytes");
+    println!("Rust   {called:.2} ns called, ratio {:.3}", own / called);
+    println!("Rust   {inlined:.2} ns where it may be inlined, ratio {:.3}", own / inlined);
 }

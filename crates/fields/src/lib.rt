@@ -46,7 +46,7 @@ impl<'a> Iterator for Lines<'a> {
 }
 
 // The fields of a line; one space stands between two fields.
-// Stays: a type beside `Lines`, since a separator ends a line and stands between fields; and not the library's `split`, which cannot say that it is done.
+// Stays: a type beside `Lines`, since a separator ends a line and stands between fields; and not the library's `split`, which can say whether a field is left only by taking it.
 #[derive(Drop)]
 pub struct Fields<'a> {
     rest: Option<&'a [u8]>,

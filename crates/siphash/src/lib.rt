@@ -96,7 +96,7 @@ fn short(bytes: &[u8]) -> u64
 }
 
 // The number that the bytes behind the whole blocks write.
-// Stays: the bar is 1.05 times Rust's own hash, on texts of 14 bytes; this takes 1.02 to 1.07, a fold over these bytes 1.21, and a block of zeros with them 1.55.
+// Stays: a hash of 14 bytes takes about 1.06 times as long as Rust's own, where 1.05 is wanted; with a fold over these bytes it takes 1.21 times as long, and with a block of zeros that holds them 1.55.
 fn tail(message: &[u8]) -> u64
     ensures value { result ≡ little (behind message.now) }
     ensures small { result < 2 ^ 56 }
