@@ -38,3 +38,4 @@ pub mod Images
 pub mod Linear
 pub mod Responding
 pub mod InTime
+pub mod Promised

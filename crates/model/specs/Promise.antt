@@ -17,3 +17,9 @@ RoundsEnd {V = V} kind = (v : V) (start : World) → Opened kind v start.hall �
 -- the log tells begins and ends in their order
 abbrev pub LogInTime : {V : Type 0} → Kind V → Type 0
 LogInTime {V = V} kind = (v : V) (start : World) → Opened kind v start.hall → (run : Run kind start) → Unforged run → MomentsInOrder run
+
+-- the promise whole, for every run from this world, at which the register was opened with the value v
+pub record Promised {V : Type 0} (kind : Kind V) (v : V) (start : World) : Type 0 where
+  pub one_order : (run : Run kind start) → Unforged run → Linearizable run v
+  pub rounds_end : (run : Run kind start) → Unforged run → Responsive run
+  pub log_in_time : (run : Run kind start) → Unforged run → MomentsInOrder run

@@ -1,0 +1,15 @@
+-- The promise whole, for the runs from one opening.
+-- The record kind keeps its laws.
+use Rattle.model.specs.Halls.{World, Kind}
+use Rattle.model.specs.Promise.{Promised}
+use Rattle.model.specs.Runs.{Lawful, Opened}
+use Rattle.model.proofs.InTime.{moments_in_order}
+use Rattle.model.proofs.Linear.{linearizable}
+use Rattle.model.proofs.Responding.{responsive}
+
+pub promised : {V : Type 0} (kind : Kind V) (v : V) (start : World) → Lawful kind → Opened kind v start.hall → Promised kind v start
+promised kind v start lawful opened = record {
+  one_order = λ run unforged. linearizable kind v start lawful opened run unforged;
+  rounds_end = λ run unforged. responsive kind v start lawful opened run unforged;
+  log_in_time = λ run unforged. moments_in_order kind v start lawful opened run unforged;
+}
