@@ -9,9 +9,6 @@ use Rattle.wire.specs.declared.entry.Entry.{Entry}
 use Rattle.wire.specs.declared.pair.Seal.{Seal}
 use Rattle.wire.specs.declared.text.Text.{Text}
 use Rattle.wire.specs.Parties.{Client}
-use Rattle.clients.specs.declared.line.Stage.{Stage}
-use Rattle.clients.specs.declared.line.Stage.TheVariants.{Reading, Writing, WritingBack, Over}
-use Rattle.clients.specs.Lines.{is_reading}
 use Rattle.clients.specs.Steps.{reading_next}
 use Rattle.clients.specs.Turns.{read_of}
 use Rattle.quorums.proofs.Insertion.{none_in_empty, empty_within}
@@ -27,12 +24,9 @@ use Rattle.model.specs.Halls.{World, no_entry, no_operation, no_seat, seat_of, o
 use Rattle.model.specs.Beginning.{new_operation, word_or_none}
 use Rattle.model.proofs.Frames.{history_added, later_card, later_configuration, later_seat, later_text}
 use Rattle.model.proofs.Invariants.{views, history, stamp_number, StampedWrite, OverBefore, SettledSomewhere, OperationRule, ReadingRule, SeatRule, LogRule, ends, Holds, Later}
+use Rattle.model.proofs.Stages.{seat_reading}
 use Rattle.model.proofs.Posts.{before_end, at_end, places_added, answers_posted, no_answer, operation_later, seats_begin}
 use Rattle.model.proofs.SlipKeeps.{seat_same, seat_other}
-
--- a reading client is in no other stage
-pub not_reading : (s : Stage) → is_reading s ≡ false → Reading ≡ s → ⊥
-not_reading s is e = clash (sym is ∙ sym (ap is_reading e))
 
 -- one more operation that has not ended
 pub ends_begun : (ops : List Operation) (op : Operation) → end_of op ≡ 0 → ends (ops ++ (op ∷ [])) ≡ ends ops
@@ -199,7 +193,7 @@ module _ (kind : ℕ) (sealed : List Text) (w : World) (holds : Holds kind seale
 
   seat_begun : SeatRule kind (begin_world w client word open_place given) client.number (begin_seat w client.number word)
   unfolding later_begun history read
-  seat_begun = record {
+  seat_begun = seat_reading (record {
     configuration = later_configuration later_begun _ mine.configuration;
     reads = λ {k} {e} p. read_rounds (subst (λ h. Posted (ReadEntry client.number k e) h) (history_added w.hall read) p);
     writes = λ {k} {e} {s} p. write_rounds (subst (λ h. Posted (WriteEntry client.number k e s) h) (history_added w.hall read) p);
@@ -214,20 +208,7 @@ module _ (kind : ℕ) (sealed : List Text) (w : World) (holds : Holds kind seale
       word = λ x e. ap (λ z. z.pair.word) new_op ∙ ap word_or_none e;
     };
     newest = λ k lt is. omega (arith, simp length-append at lt);
-    reading = λ e. reading;
-    writing = λ e. absurd (not_reading Writing refl e);
-    writing_pair = λ e. absurd (not_reading Writing refl e);
-    writing_stamped = λ e. absurd (not_reading Writing refl e);
-    back = λ e. absurd (not_reading WritingBack refl e);
-    back_known = λ e. absurd (not_reading WritingBack refl e);
-    back_reads = λ e. absurd (not_reading WritingBack refl e);
-    back_after = λ e. absurd (not_reading WritingBack refl e);
-    open_reading = λ e. record { unended = ap (λ z. end_of z) new_op; counted = empty_within _; few = omega (arith, ones_empty) };
-    open_writing = λ e. absurd (not_reading Writing refl e);
-    open_back = λ e. absurd (not_reading WritingBack refl e);
-    over_ended = λ e. absurd (not_reading Over refl e);
-    over_pair = λ e. absurd (not_reading Over refl e);
-  }
+  }) refl reading (record { unended = ap (λ z. end_of z) new_op; counted = empty_within _; few = omega (arith, ones_empty) })
     where
       mine : SeatRule kind w client.number (seat_of w.hall client.number)
       mine = holds.seats client.number low high

@@ -25,7 +25,8 @@ use Rattle.model.proofs.ClientSteps.{client_low, client_high}
 use Rattle.model.proofs.Frames.{later_pair}
 use Rattle.model.proofs.Invariants.{history, stamp_number, KnownConfiguration, KnownPair, Genuine, OverBefore, SendingRule, OpenRule, OwnRule, SeatRule, Holds}
 use Rattle.model.proofs.Moved.{moved, Posting, posting_one, logging_none, later_moved}
-use Rattle.model.proofs.Seats.{with_line, SeatBase, base_moved, counts_kept, own_moved, seat_reading, seat_writing, seat_back, step_keeps}
+use Rattle.model.proofs.Seats.{with_line, base_moved, counts_kept, own_moved, step_keeps}
+use Rattle.model.proofs.Stages.{SeatBase, seat_reading, seat_writing, seat_back}
 
 -- no one is counted in a new round
 pub none_counted : {P : Type 0} (n : ℕ) → member 0 n ≡ true → P

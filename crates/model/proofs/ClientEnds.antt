@@ -26,7 +26,8 @@ use Rattle.model.proofs.Invariants.{views, history, stamp_number, KnownConfigura
 use Rattle.model.proofs.Invariants.KnownPair.{a_write}
 use Rattle.model.proofs.LogSteps.{OpStep, set_here, set_there, logging_set, StampsWell, log_set}
 use Rattle.model.proofs.Moved.{moved, Posting, posting_none, later_moved, moved_keeps}
-use Rattle.model.proofs.Seats.{with_line, base_moved, counts_kept, own_moved, seat_over}
+use Rattle.model.proofs.Seats.{with_line, base_moved, counts_kept, own_moved}
+use Rattle.model.proofs.Stages.{seat_over}
 
 -- the operation of a seat, ended with the pair of this line
 abbrev pub ended_op : World → Seat → Line → Operation

@@ -32,7 +32,8 @@ use Rattle.model.proofs.Invariants.KnownText.{of_write}
 use Rattle.model.proofs.LogSteps.{OpStep, set_here, set_there, logging_set, StampsWell, log_set}
 use Rattle.model.proofs.Moved.{moved, Posting, later_moved, moved_keeps}
 use Rattle.model.proofs.Seals.{known_writer}
-use Rattle.model.proofs.Seats.{with_line, base_moved, own_moved, seat_writing}
+use Rattle.model.proofs.Seats.{with_line, base_moved, own_moved}
+use Rattle.model.proofs.Stages.{seat_writing}
 use Rattle.model.proofs.Ways.{some_same}
 
 -- the operation of a seat, with the pair of this line

@@ -29,7 +29,8 @@ use Rattle.model.proofs.Invariants.{KnownConfiguration, OpenRule, SeatRule, Hold
 use Rattle.model.proofs.Moved.{moved, posting_none, posting_one}
 use Rattle.wire.proofs.Made.{single_within}
 use Rattle.model.proofs.Seals.{checked_configuration}
-use Rattle.model.proofs.Seats.{with_line, base_here, seat_idle, seat_reading, seat_writing, seat_back, seat_over, stay_keeps}
+use Rattle.model.proofs.Seats.{with_line, base_here, stay_keeps}
+use Rattle.model.proofs.Stages.{seat_idle, seat_reading, seat_writing, seat_back, seat_over}
 
 -- the numbers of clients are 1 and above, and below 100
 pub client_low : (client : Client) → 1 ≤ client.number

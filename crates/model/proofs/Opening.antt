@@ -1,6 +1,6 @@
 -- What an opening leaves meets every rule: nothing is posted, logged or sealed yet.
 -- The world has any sealer and any store that the opening could leave.
-use Rattle.std.proofs.Common.{◌≡◌, ℕ, ◌+◌, ◌*◌, ◌/◌, ◌^◌, ◌<◌, ◌≤◌, true, false, eqb, List, [], ◌∷◌, reverse, length, get_or, sym, refl, ap, ◌∙◌, subst, arith, eq-eqb, eqb-true, leb-true}
+use Rattle.std.proofs.Common.{◌≡◌, ℕ, ◌+◌, ◌*◌, ◌/◌, ◌^◌, ◌<◌, ◌≤◌, true, eqb, List, [], ◌∷◌, reverse, length, get_or, sym, refl, ap, ◌∙◌, subst, arith, eq-eqb, eqb-true, leb-true}
 use Rattle.std.proofs.Math.Nat.{lt-div-mul-add, zero-mul}
 use Rattle.std.proofs.lemmas.Nat.{pow_pos}
 use mathlib.Core.List.Memᴰ
@@ -11,9 +11,6 @@ use Rattle.wire.specs.declared.entry.Entry.{Entry}
 use Rattle.wire.specs.declared.pair.Pair.{Pair}
 use Rattle.rules.specs.declared.rules.Rules.{Rules}
 use Rattle.rules.specs.Genuine.{same_pair, opening_pair, first_configuration, genuine_pair}
-use Rattle.clients.specs.declared.line.Stage.{Stage}
-use Rattle.clients.specs.declared.line.Stage.TheVariants.{Idle, Reading, Writing, WritingBack, Over}
-use Rattle.clients.specs.Lines.{is_idle}
 use Rattle.quorums.specs.Quorums.{Sound}
 use Rattle.histories.specs.Places.{Somewhere, here, there, done}
 use Rattle.histories.specs.Histories.{Good}
@@ -21,11 +18,8 @@ use Rattle.model.specs.Halls.{World, Kind, no_configuration}
 use Rattle.model.specs.Issuing.{is_right_set}
 use Rattle.model.specs.Runs.{Opened, first_card, first_seat}
 use Rattle.model.proofs.Invariants.{views, history, issued_as, CardRule, the_opening, SeatRule, ends, Holds}
+use Rattle.model.proofs.Stages.{seat_idle}
 use Rattle.model.proofs.Ways.{both}
-
--- an idle client is in no other stage
-pub not_idle : (s : Stage) → is_idle s ≡ false → Idle ≡ s → ⊥
-not_idle s is e = clash (sym is ∙ sym (ap is_idle e))
 
 -- nothing stands in an empty history
 stands : List Entry → Type 0
@@ -108,7 +102,7 @@ module _ {V : Type 0} (kind : Kind V) (v : V) (w : World) (o : Opened kind v w.h
   none_logged k lt = omega (arith, ap length o.log, lt)
 
   seat_rule : (c : ℕ) → SeatRule kind.number w c (first_seat w.hall.rules)
-  seat_rule c = record {
+  seat_rule c = seat_idle (record {
     configuration = record { issued = omega (arith, one_issued); set = sym (ap (λ z. z.set.0) first_issued) };
     reads = λ p. absurd (nowhere no_history p);
     writes = λ p. absurd (nowhere no_history p);
@@ -117,20 +111,7 @@ module _ {V : Type 0} (kind : Kind V) (v : V) (w : World) (o : Opened kind v w.h
     counts = λ k s. absurd (none_logged k s.logged);
     own = λ busy. absurd (clash (sym busy));
     newest = λ k lt. absurd (none_logged k lt);
-    reading = λ e. absurd (not_idle Reading refl e);
-    writing = λ e. absurd (not_idle Writing refl e);
-    writing_pair = λ e. absurd (not_idle Writing refl e);
-    writing_stamped = λ e. absurd (not_idle Writing refl e);
-    back = λ e. absurd (not_idle WritingBack refl e);
-    back_known = λ e. absurd (not_idle WritingBack refl e);
-    back_reads = λ e. absurd (not_idle WritingBack refl e);
-    back_after = λ e. absurd (not_idle WritingBack refl e);
-    open_reading = λ e. absurd (not_idle Reading refl e);
-    open_writing = λ e. absurd (not_idle Writing refl e);
-    open_back = λ e. absurd (not_idle WritingBack refl e);
-    over_ended = λ e. absurd (not_idle Over refl e);
-    over_pair = λ e. absurd (not_idle Over refl e);
-  }
+  }) refl
 
   pub opened_holds : Holds kind.number [] w
   unfolding history ends

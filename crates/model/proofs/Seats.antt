@@ -1,14 +1,11 @@
--- The rule of a seat by the stage that it is in, and of the seat of the client that has made a step.
--- What is the same in every stage is a record of its own.
-use Rattle.std.proofs.Common.{◌≡◌, ℕ, ◌<◌, ◌≤◌, Bool, true, false, eqb, List, length, get_or, Some, sym, refl, ap, ◌∙◌, subst, ⊎_elim, arith}
-use Rattle.std.proofs.lemmas.Bool.{eqb-false}
+-- The seat of the client that has made a step, and the world that the step leaves.
+-- What is said of the old seat is carried over.
+use Rattle.std.proofs.Common.{◌≡◌, ℕ, ◌≤◌, Bool, true, false, List, length, get_or, Some, sym, refl, ap, ◌∙◌, subst, ⊎_elim, arith}
 use Rattle.kinds.specs.declared.word.Word.{Word}
 use Rattle.wire.specs.declared.entry.Entry.{Entry}
 use Rattle.wire.specs.declared.pair.Seal.{Seal}
 use Rattle.wire.specs.declared.text.Text.{Text}
 use Rattle.clients.specs.declared.line.Line.{Line}
-use Rattle.clients.specs.declared.line.Stage.{Stage}
-use Rattle.clients.specs.declared.line.Stage.TheVariants.{Idle, Reading, Writing, WritingBack, Over}
 use Rattle.clients.specs.Lines.{is_idle}
 use Rattle.histories.specs.Places.{Posted, Everywhere}
 use Rattle.histories.specs.Shapes.{ReadEntry, WriteEntry}
@@ -16,165 +13,16 @@ use Rattle.histories.proofs.Places.{posted_split}
 use Rattle.halls.specs.declared.operation.Operation.{Operation}
 use Rattle.halls.specs.declared.seat.Seat.{Seat}
 use Rattle.model.specs.Tables.{Table}
-use Rattle.model.specs.Halls.{World, no_operation, operation_of, end_of}
+use Rattle.model.specs.Halls.{World, no_operation, operation_of}
 use Rattle.model.proofs.Frames.{later_configuration, later_text, later_seat, QuietClient}
-use Rattle.model.proofs.Invariants.{history, stamp_number, KnownConfiguration, StampedWrite, KnownPair, OverBefore, ReadingRule, SendingRule, OpenRule, OwnRule, SeatRule, Holds}
+use Rattle.model.proofs.Invariants.{history, KnownConfiguration, StampedWrite, OwnRule, SeatRule, Holds}
 use Rattle.model.proofs.Moved.{moved, Posting, Logging, logging_none, later_moved, moved_keeps}
 use Rattle.model.proofs.Posts.{log_later}
+use Rattle.model.proofs.Stages.{SeatBase}
 
 -- the seat with another line
 abbrev pub with_line : Seat → Line → Seat
 with_line seat line = record seat { line = line }
-
--- what a seat keeps in every stage
-pub record SeatBase (kind : ℕ) (w : World) (c : ℕ) (seat : Seat) : Type 0 where
-  pub configuration : KnownConfiguration w.hall seat.line.configuration
-  pub reads : {k e : ℕ} → Posted (ReadEntry c k e) (history w.hall) → k ≤ seat.line.round
-  pub writes : {k e s : ℕ} → Posted (WriteEntry c k e s) (history w.hall) → k ≤ seat.line.round
-  pub round_low : seat.line.round ≤ length w.hall.post.list
-  pub count_low : seat.line.last_count ≤ length w.hall.post.list
-  pub counts : (k : ℕ) → StampedWrite w.hall k → (operation_of w.hall k).client ≡ c → (operation_of w.hall k).pair.stamp.count ≤ seat.line.last_count
-  pub own : is_idle seat.line.stage ≡ false → OwnRule w c seat
-  pub newest : (k : ℕ) → k < length w.hall.log.list → (operation_of w.hall k).client ≡ c → k ≤ seat.operation
-
-abbrev stage_code : Stage → ℕ
-stage_code Idle = 0
-stage_code Reading = 1
-stage_code Writing = 2
-stage_code WritingBack = 3
-stage_code Over = 4
-
--- no stage is two stages
-pub unlike : {P : Type 0} {s : Stage} (a b : Stage) → eqb (stage_code a) (stage_code b) ≡ false → s ≡ a → s ≡ b → P
-unlike a b ne p q = absurd (eqb-false (stage_code a) (stage_code b) ne (ap stage_code (sym p ∙ q)))
-
-module _ {kind : ℕ} {w : World} {c : ℕ} {seat : Seat} (b : SeatBase kind w c seat) where
-  pub seat_reading : seat.line.stage ≡ Reading → ReadingRule kind w c seat → OpenRule w c seat → SeatRule kind w c seat
-  seat_reading is reads opens = record {
-    configuration = b.configuration;
-    reads = b.reads;
-    writes = b.writes;
-    round_low = b.round_low;
-    count_low = b.count_low;
-    counts = b.counts;
-    own = b.own;
-    newest = b.newest;
-    reading = λ at. reads;
-    open_reading = λ at. opens;
-    writing = unlike Reading Writing refl is;
-    writing_pair = unlike Reading Writing refl is;
-    writing_stamped = unlike Reading Writing refl is;
-    open_writing = unlike Reading Writing refl is;
-    back = unlike Reading WritingBack refl is;
-    back_known = unlike Reading WritingBack refl is;
-    back_reads = unlike Reading WritingBack refl is;
-    back_after = unlike Reading WritingBack refl is;
-    open_back = unlike Reading WritingBack refl is;
-    over_ended = unlike Reading Over refl is;
-    over_pair = unlike Reading Over refl is;
-  }
-
-  pub seat_writing : seat.line.stage ≡ Writing → SendingRule kind w c seat → (operation_of w.hall seat.operation).pair ≡ seat.line.highest → StampedWrite w.hall seat.operation → OpenRule w c seat → SeatRule kind w c seat
-  seat_writing is sends pair stamped opens = record {
-    configuration = b.configuration;
-    reads = b.reads;
-    writes = b.writes;
-    round_low = b.round_low;
-    count_low = b.count_low;
-    counts = b.counts;
-    own = b.own;
-    newest = b.newest;
-    reading = unlike Writing Reading refl is;
-    open_reading = unlike Writing Reading refl is;
-    writing = λ at. sends;
-    writing_pair = λ at. pair;
-    writing_stamped = λ at. stamped;
-    open_writing = λ at. opens;
-    back = unlike Writing WritingBack refl is;
-    back_known = unlike Writing WritingBack refl is;
-    back_reads = unlike Writing WritingBack refl is;
-    back_after = unlike Writing WritingBack refl is;
-    open_back = unlike Writing WritingBack refl is;
-    over_ended = unlike Writing Over refl is;
-    over_pair = unlike Writing Over refl is;
-  }
-
-  pub seat_back : seat.line.stage ≡ WritingBack → SendingRule kind w c seat → KnownPair w.hall seat.line.highest → (operation_of w.hall seat.operation).writes ≡ false
-      → ((k : ℕ) → OverBefore w.hall k seat.operation → stamp_number (operation_of w.hall k).pair ≤ stamp_number seat.line.highest)
-      → OpenRule w c seat → SeatRule kind w c seat
-  seat_back is sends known reads after opens = record {
-    configuration = b.configuration;
-    reads = b.reads;
-    writes = b.writes;
-    round_low = b.round_low;
-    count_low = b.count_low;
-    counts = b.counts;
-    own = b.own;
-    newest = b.newest;
-    reading = unlike WritingBack Reading refl is;
-    open_reading = unlike WritingBack Reading refl is;
-    writing = unlike WritingBack Writing refl is;
-    writing_pair = unlike WritingBack Writing refl is;
-    writing_stamped = unlike WritingBack Writing refl is;
-    open_writing = unlike WritingBack Writing refl is;
-    back = λ at. sends;
-    back_known = λ at. known;
-    back_reads = λ at. reads;
-    back_after = λ at. after;
-    open_back = λ at. opens;
-    over_ended = unlike WritingBack Over refl is;
-    over_pair = unlike WritingBack Over refl is;
-  }
-
-  pub seat_over : seat.line.stage ≡ Over → 0 < end_of (operation_of w.hall seat.operation) → (operation_of w.hall seat.operation).pair ≡ seat.line.highest → SeatRule kind w c seat
-  seat_over is ended pair = record {
-    configuration = b.configuration;
-    reads = b.reads;
-    writes = b.writes;
-    round_low = b.round_low;
-    count_low = b.count_low;
-    counts = b.counts;
-    own = b.own;
-    newest = b.newest;
-    reading = unlike Over Reading refl is;
-    open_reading = unlike Over Reading refl is;
-    writing = unlike Over Writing refl is;
-    writing_pair = unlike Over Writing refl is;
-    writing_stamped = unlike Over Writing refl is;
-    open_writing = unlike Over Writing refl is;
-    back = unlike Over WritingBack refl is;
-    back_known = unlike Over WritingBack refl is;
-    back_reads = unlike Over WritingBack refl is;
-    back_after = unlike Over WritingBack refl is;
-    open_back = unlike Over WritingBack refl is;
-    over_ended = λ at. ended;
-    over_pair = λ at. pair;
-  }
-
-  pub seat_idle : seat.line.stage ≡ Idle → SeatRule kind w c seat
-  seat_idle is = record {
-    configuration = b.configuration;
-    reads = b.reads;
-    writes = b.writes;
-    round_low = b.round_low;
-    count_low = b.count_low;
-    counts = b.counts;
-    own = b.own;
-    newest = b.newest;
-    reading = unlike Idle Reading refl is;
-    open_reading = unlike Idle Reading refl is;
-    writing = unlike Idle Writing refl is;
-    writing_pair = unlike Idle Writing refl is;
-    writing_stamped = unlike Idle Writing refl is;
-    open_writing = unlike Idle Writing refl is;
-    back = unlike Idle WritingBack refl is;
-    back_known = unlike Idle WritingBack refl is;
-    back_reads = unlike Idle WritingBack refl is;
-    back_after = unlike Idle WritingBack refl is;
-    open_back = unlike Idle WritingBack refl is;
-    over_ended = unlike Idle Over refl is;
-    over_pair = unlike Idle Over refl is;
-  }
 
 -- in the same world, with a line of the same round, word and last count
 pub base_here : {kind : ℕ} {w : World} {c : ℕ} {seat : Seat} (line : Line) → KnownConfiguration w.hall line.configuration

@@ -5,7 +5,6 @@ use native.Mathlib.Decide.{ℕ_discrete}
 use borrow.Author.Tests.{clash}
 use Rattle.wire.specs.declared.pair.Seal.{Seal}
 use Rattle.wire.specs.declared.text.Text.{Text}
-use Rattle.clients.specs.declared.line.Stage.TheVariants.{Reading, Writing, WritingBack, Over}
 use Rattle.histories.specs.Places.{done}
 use Rattle.halls.specs.declared.seat.Seat.{Seat}
 use Rattle.model.specs.Tables.{places}
@@ -13,8 +12,8 @@ use Rattle.model.specs.Halls.{Hall, World, no_seat, seat_of}
 use Rattle.model.specs.Slips.{freed, holding_slip}
 use Rattle.model.proofs.Frames.{later_seat}
 use Rattle.model.proofs.Invariants.{history, Sized, SeatRule, SendingRule, OpenRule, Holds}
-use Rattle.model.proofs.Opening.{not_idle}
 use Rattle.model.proofs.Posts.{aside, later_aside, seat_aside, seats_keep}
+use Rattle.model.proofs.Stages.{seat_idle}
 use Rattle.model.proofs.Ways.{both}
 
 -- there is one seat for each client
@@ -55,7 +54,7 @@ one_seat_keeps kind sealed w c seat open_place given holds low high rule =
 
 -- an idle seat is bound by little
 pub freed_rule : {kind : ℕ} {w : World} {c : ℕ} {seat : Seat} → SeatRule kind w c seat → SeatRule kind w c (freed seat)
-freed_rule s = record {
+freed_rule s = seat_idle (record {
   configuration = s.configuration;
   reads = s.reads;
   writes = s.writes;
@@ -64,20 +63,7 @@ freed_rule s = record {
   counts = s.counts;
   newest = s.newest;
   own = λ busy. absurd (clash (sym busy));
-  reading = λ e. absurd (not_idle Reading refl e);
-  writing = λ e. absurd (not_idle Writing refl e);
-  writing_pair = λ e. absurd (not_idle Writing refl e);
-  writing_stamped = λ e. absurd (not_idle Writing refl e);
-  back = λ e. absurd (not_idle WritingBack refl e);
-  back_known = λ e. absurd (not_idle WritingBack refl e);
-  back_reads = λ e. absurd (not_idle WritingBack refl e);
-  back_after = λ e. absurd (not_idle WritingBack refl e);
-  open_reading = λ e. absurd (not_idle Reading refl e);
-  open_writing = λ e. absurd (not_idle Writing refl e);
-  open_back = λ e. absurd (not_idle WritingBack refl e);
-  over_ended = λ e. absurd (not_idle Over refl e);
-  over_pair = λ e. absurd (not_idle Over refl e);
-}
+}) refl
 
 -- which slip is lodged does not matter
 pub lodged_rule : {kind : ℕ} {w : World} {c : ℕ} {seat : Seat} (lodged : Option ℕ) → SeatRule kind w c seat → SeatRule kind w c (holding_slip seat lodged)
