@@ -18,7 +18,7 @@ use Rattle.halls.specs.declared.seat.Seat.{Seat}
 use Rattle.model.specs.Halls.{World, operation_of, end_of}
 use Rattle.model.specs.Delivering.{entry_of}
 use Rattle.model.proofs.ClientMoves.{Hears, Acked, heard}
-use Rattle.model.proofs.ClientSteps.{client_low, writing_cases}
+use Rattle.model.proofs.ClientSteps.{client_low}
 use Rattle.model.proofs.Closing.{sent_settled, pair_closes}
 use Rattle.model.proofs.Frames.{later_pair, later_text}
 use Rattle.model.proofs.Heard.{sent_by, counted_sending}
@@ -28,6 +28,7 @@ use Rattle.model.proofs.LogSteps.{OpStep, set_here, set_there, logging_set, Stam
 use Rattle.model.proofs.Moved.{moved, Posting, posting_none, later_moved, moved_keeps}
 use Rattle.model.proofs.Seats.{with_line, base_moved, counts_kept, own_moved}
 use Rattle.model.proofs.Stages.{seat_over}
+use Rattle.model.proofs.StageTests.{writing_cases}
 
 -- the operation of a seat, ended with the pair of this line
 abbrev pub ended_op : World → Seat → Line → Operation

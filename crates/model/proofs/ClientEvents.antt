@@ -9,11 +9,10 @@ use Rattle.wire.specs.Parties.{Client}
 use Rattle.rules.specs.declared.rules.Rules.{Rules}
 use Rattle.rules.specs.Genuine.{genuine_entry}
 use Rattle.clients.specs.declared.line.Line.{Line}
-use Rattle.clients.specs.declared.line.Stage.{Stage}
-use Rattle.clients.specs.declared.line.Stage.TheVariants.{Idle, Reading, Writing, WritingBack, Over}
+use Rattle.clients.specs.declared.line.Stage.TheVariants.{Reading, Writing, WritingBack, Over}
 use Rattle.clients.specs.declared.turn.Turn.{Turn}
 use Rattle.clients.specs.declared.turn.Turn.TheVariants.{Moves, Stamps}
-use Rattle.clients.specs.Lines.{is_open, is_idle, is_writing, sealed_with}
+use Rattle.clients.specs.Lines.{is_open, is_writing, sealed_with}
 use Rattle.clients.specs.Steps.{acted, signing}
 use Rattle.clients.specs.Turns.{Verdict, decided}
 use Rattle.halls.specs.declared.operation.Operation.{Operation}
@@ -23,6 +22,7 @@ use Rattle.model.specs.Delivering.{client_step_of, is_over, is_stamping, has_end
 use Rattle.model.proofs.Invariants.{SeatRule}
 use Rattle.model.proofs.ClientMoves.{ClientMove, counts_pair, ends_read, writes_back, takes_stamp, counts_ack, ends_write, goes_on, reads_again, writes_again, replies, client_view}
 use Rattle.model.proofs.Ways.{way_in, not_ok, ok_same}
+use Rattle.model.proofs.StageTests.{same_over, same_stamping, not_to_reading, not_to_back, opens_not_over, writing_cases, writing_opens, opens_busy}
 
 -- the turn of a client's step, and the line that came of it
 pub data Turned (rules : Rules) (client : Client) (before : Line) (e : Entry) (genuine : Bool) (line : Line) (post : Option Entry) : Type 0 where
@@ -68,75 +68,22 @@ pub data LineChange (op : Operation) (before line : Line) : Type 0 where
 
 -- the stage stays
 same_stage : (op : Operation) (before line : Line) → line.stage ≡ before.stage → LineChange op before line
-same_stage op before line e = unchanged (by_stage_ended before.stage line.stage e) (by_stage_stamping before.stage line.stage e)
-  where
-    ended_not : (s : Stage) → (is_over s && not (is_over s)) ≡ false
-    ended_not Idle = refl
-    ended_not Reading = refl
-    ended_not Writing = refl
-    ended_not WritingBack = refl
-    ended_not Over = refl
-
-    stamping_not : (s : Stage) → is_stamping s s ≡ false
-    stamping_not Idle = refl
-    stamping_not Reading = refl
-    stamping_not Writing = refl
-    stamping_not WritingBack = refl
-    stamping_not Over = refl
-
-    by_stage_ended : (s t : Stage) → t ≡ s → (is_over t && not (is_over s)) ≡ false
-    by_stage_ended s t p = subst (λ z. (is_over z && not (is_over s)) ≡ false) (sym p) (ended_not s)
-
-    by_stage_stamping : (s t : Stage) → t ≡ s → is_stamping s t ≡ false
-    by_stage_stamping s t p = subst (λ z. is_stamping s z ≡ false) (sym p) (stamping_not s)
+same_stage op before line e = unchanged
+    (subst (λ z. (is_over z && not (is_over before.stage)) ≡ false) (sym e) (same_over before.stage))
+    (subst (λ z. is_stamping before.stage z ≡ false) (sym e) (same_stamping before.stage))
 
 -- it reads in another round
 to_reading : (op : Operation) (before line : Line) → line.stage ≡ Reading → LineChange op before line
-to_reading op before line e = unchanged (subst (λ z. (is_over z && not (is_over before.stage)) ≡ false) (sym e) refl) (subst (λ z. is_stamping before.stage z ≡ false) (sym e) (never before.stage))
-  where
-    never : (s : Stage) → is_stamping s Reading ≡ false
-    never Idle = refl
-    never Reading = refl
-    never Writing = refl
-    never WritingBack = refl
-    never Over = refl
+to_reading op before line e = unchanged (subst (λ z. (is_over z && not (is_over before.stage)) ≡ false) (sym e) refl) (subst (λ z. is_stamping before.stage z ≡ false) (sym e) (not_to_reading before.stage))
 
 -- it ends
 to_over : (op : Operation) (before line : Line) → line.stage ≡ Over → is_open before.stage ≡ true → (op.writes ≡ true → line.highest.word ≡ op.pair.word) → LineChange op before line
-to_over op before line e busy word = ends_now (subst (λ z. (is_over z && not (is_over before.stage)) ≡ true) (sym e) (open_not_over before.stage busy)) e busy word
-  where
-    open_not_over : (s : Stage) → is_open s ≡ true → not (is_over s) ≡ true
-    open_not_over Idle p = refl
-    open_not_over Reading p = refl
-    open_not_over Writing p = refl
-    open_not_over WritingBack p = refl
-    open_not_over Over p = p
-
-writing_opens : (s : Stage) → is_writing s ≡ true → is_open s ≡ true
-writing_opens Idle p = p
-writing_opens Reading p = refl
-writing_opens Writing p = refl
-writing_opens WritingBack p = refl
-writing_opens Over p = p
-
-writing_either : (s : Stage) → is_writing s ≡ true → (s ≡ Writing) ⊎ (s ≡ WritingBack)
-writing_either Idle p = absurd (clash p)
-writing_either Reading p = absurd (clash p)
-writing_either Writing p = inl refl
-writing_either WritingBack p = inr refl
-writing_either Over p = absurd (clash p)
-
-pub opens_busy : (s : Stage) → is_open s ≡ true → is_idle s ≡ false
-opens_busy Idle p = sym p
-opens_busy Reading p = refl
-opens_busy Writing p = refl
-opens_busy WritingBack p = refl
-opens_busy Over p = refl
+to_over op before line e busy word = ends_now (subst (λ z. (is_over z && not (is_over before.stage)) ≡ true) (sym e) (opens_not_over before.stage busy)) e busy word
 
 module _ {kind : ℕ} {w : World} (client : Client) (seat : Seat) (rule : SeatRule kind w client.number seat) where
   -- while writing or writing back the word in flight is a write's own
   word_kept : is_writing seat.line.stage ≡ true → (operation_of w.hall seat.operation).writes ≡ true → seat.line.highest.word ≡ (operation_of w.hall seat.operation).pair.word
-  word_kept writing y = by_stage (writing_either seat.line.stage writing)
+  word_kept writing y = by_stage (writing_cases seat.line.stage writing)
     where
       by_stage : (seat.line.stage ≡ Writing) ⊎ (seat.line.stage ≡ WritingBack) → seat.line.highest.word ≡ (operation_of w.hall seat.operation).pair.word
       by_stage (inl s) = sym (ap (λ p. p.word) (rule.writing_pair s))
@@ -151,14 +98,7 @@ module _ {kind : ℕ} {w : World} (client : Client) (seat : Seat) (rule : SeatRu
       (λ y. absurd (clash (sym ((rule.own (opens_busy _ (ap is_open h.stage))).reads none) ∙ y)))
   line_change {line = line} (moved_to turn (writes_back from h large none t) is) =
       unchanged (subst (λ z. (is_over z && not (is_over seat.line.stage)) ≡ false) (ap (λ l. l.stage) (moves_line (sym t ∙ is))) refl)
-      (subst (λ z. is_stamping seat.line.stage z ≡ false) (ap (λ l. l.stage) (moves_line (sym t ∙ is))) (never seat.line.stage))
-    where
-      never : (s : Stage) → is_stamping s WritingBack ≡ false
-      never Idle = refl
-      never Reading = refl
-      never Writing = refl
-      never WritingBack = refl
-      never Over = refl
+      (subst (λ z. is_stamping seat.line.stage z ≡ false) (ap (λ l. l.stage) (moves_line (sym t ∙ is))) (not_to_back seat.line.stage))
   line_change (moved_to turn (takes_stamp from word h large some t) is) = not_moves (sym t ∙ is)
   line_change {line = line} (moved_to turn (counts_ack from h few t) is) = same_stage _ _ line (ap (λ l. l.stage) (sym (moves_line (sym t ∙ is))))
   line_change {line = line} (moved_to turn (ends_write from h large t) is) =

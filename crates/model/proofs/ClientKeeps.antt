@@ -16,8 +16,7 @@ use Rattle.rules.specs.Genuine.{genuine_entry}
 use Rattle.rules.specs.Posts.{config_entry}
 use Rattle.clients.specs.declared.fault.ClientFault.{ClientFault}
 use Rattle.clients.specs.declared.line.Line.{Line}
-use Rattle.clients.specs.declared.line.Stage.{Stage}
-use Rattle.clients.specs.declared.line.Stage.TheVariants.{Idle, Reading, Writing, WritingBack, Over}
+use Rattle.clients.specs.declared.line.Stage.TheVariants.{Writing, WritingBack}
 use Rattle.clients.specs.declared.turn.Turn.{Turn}
 use Rattle.clients.specs.Lines.{ended, counting, sealed_with as with_seal}
 use Rattle.clients.specs.Steps.{Stepped, acted, signing}
@@ -33,11 +32,12 @@ use Rattle.model.proofs.ClientEnds.{ended_op, ends_keeps, ending_read, ending_wr
 use Rattle.model.proofs.ClientMoves.{ClientMove, Hears, Acked, heard, backward, forward, moved_on, reread, rewritten, client_view}
 use Rattle.model.proofs.ClientMoves.ClientMove.{counts_pair, ends_read, writes_back, takes_stamp, counts_ack, ends_write, goes_on, reads_again, writes_again, replies}
 use Rattle.model.proofs.ClientStamps.{stamped_op, stamping, stamps_keep}
-use Rattle.model.proofs.ClientSteps.{client_low, writing_cases, keeps_pair, keeps_ack, keeps_config, keeps_reply, known_handed}
+use Rattle.model.proofs.ClientSteps.{client_low, keeps_pair, keeps_ack, keeps_config, keeps_reply, known_handed}
 use Rattle.model.proofs.Closing.{pair_closes}
 use Rattle.model.proofs.Invariants.{SeatRule, Holds, UnforgedNow}
 use Rattle.model.proofs.Moved.{moved}
 use Rattle.model.proofs.Seats.{with_line}
+use Rattle.model.proofs.StageTests.{writing_cases, same_over, same_stamping, not_to_reading, not_to_over}
 
 -- one more sealed text, if there is one
 abbrev pub sealed_with : Option Text → List Text → List Text
@@ -113,35 +113,6 @@ module _ (w : World) (c : ℕ) (line : Line) where
         let world = world_is post seals genuine (stamped_op w (seat_of w.hall c) line) w.hall.moment (rw (going, stamps) refl) (rw going refl) in
         subst (λ t. Holds kind (sealed_with t sealed) (client_world w c line post seals genuine)) (sym text)
         (subst (Holds kind (pair_text kind line.highest ∷ sealed)) (sym world) (held genuine (subst (λ t. GenuineThen t w genuine) text grows)))
-
--- a step that leaves the stage as it is does not end or stamp, and only a stage of writing stamps
-same_over : (s : Stage) → (is_over s && not (is_over s)) ≡ false
-same_over Idle = refl
-same_over Reading = refl
-same_over Writing = refl
-same_over WritingBack = refl
-same_over Over = refl
-
-same_stamping : (s : Stage) → is_stamping s s ≡ false
-same_stamping Idle = refl
-same_stamping Reading = refl
-same_stamping Writing = refl
-same_stamping WritingBack = refl
-same_stamping Over = refl
-
-not_to_reading : (s : Stage) → is_stamping s Reading ≡ false
-not_to_reading Idle = refl
-not_to_reading Reading = refl
-not_to_reading Writing = refl
-not_to_reading WritingBack = refl
-not_to_reading Over = refl
-
-not_to_over : (s : Stage) → is_stamping s Over ≡ false
-not_to_over Idle = refl
-not_to_over Reading = refl
-not_to_over Writing = refl
-not_to_over WritingBack = refl
-not_to_over Over = refl
 
 -- PAIR and ACK go to the client addressed
 addressed : (e : Entry) (client : Client) (k : ℕ) → e.kind ≡ k → fits_client (kind_of k) e client ≡ (is_replica_number e.sender && eqb e.addressee client.number)

@@ -1,6 +1,6 @@
 -- What a client can do with an entry: the ways through its step that change its line or post something.
 -- The view is told from the verdict alone.
-use Rattle.std.proofs.Common.{◌≡◌, ℕ, ◌+◌, ◌<◌, max, Bool, true, false, not, ◌&&◌, eqb, ltb, leb, ◌⊎◌, Some, None, Ok, Option, sym, refl, ap, inl, inr, arith}
+use Rattle.std.proofs.Common.{◌≡◌, ℕ, ◌+◌, ◌<◌, max, Bool, true, false, not, ◌&&◌, eqb, ltb, leb, ◌⊎◌, Some, None, Ok, Option, sym, refl, ap, inl, inr}
 use Rattle.std.proofs.lemmas.Bool.{eqb-true, leb-false, not-false}
 use Rattle.kinds.specs.declared.word.Word.{Word}
 use Rattle.wire.specs.declared.entry.Entry.{Entry}
@@ -21,6 +21,7 @@ use Rattle.clients.specs.Lines.{no_pair, is_open, is_reading, is_writing, opened
 use Rattle.clients.specs.Turns.{closing, is_quorum, pair_heard, ack_heard, on_pair, on_pair_from, on_ack, on_ack_from, on_config, on_behind, reopening, decided_by_kind, decided, read_of, write_of, unsealed}
 use Rattle.model.proofs.ReplicaMoves.{kind_known}
 use Rattle.model.proofs.Ways.{way, not_ok, ok_same, both}
+use Rattle.model.proofs.StageTests.{reading_is}
 
 -- PAIR for the open round of reading, from a member that is not counted yet
 pub record Hears (line : Line) (e : Entry) (genuine : Bool) (from : Replica) : Type 0 where
@@ -90,13 +91,6 @@ pub data ClientMove (rules : Rules) (client : Client) (line : Line) (e : Entry) 
       → turn ≡ Moves (rewritten (moved_on line e)) (Some (write_of client (rewritten (moved_on line e)))) → ClientMove rules client line e genuine turn
   replies : e.kind ≡ 8 → turn ≡ Moves line (Some (config_entry client.number line.configuration)) → ClientMove rules client line e genuine turn
 
-is_reading_at : (s : Stage) → is_reading s ≡ true → s ≡ Reading
-is_reading_at Idle p = let z : ◌≡◌ {A = ℕ} 0 1 = cc in absurd (omega arith)
-is_reading_at Reading p = refl
-is_reading_at Writing p = let z : ◌≡◌ {A = ℕ} 0 1 = cc in absurd (omega arith)
-is_reading_at WritingBack p = let z : ◌≡◌ {A = ℕ} 0 1 = cc in absurd (omega arith)
-is_reading_at Over p = let z : ◌≡◌ {A = ℕ} 0 1 = cc in absurd (omega arith)
-
 module _ (rules : Rules) (client : Client) (line : Line) (e : Entry) (genuine : Bool) (turn : Turn) where
   closing_view : (from : Replica) → Hears line e genuine from → is_quorum rules (heard line e from) ≡ true
       → (o : Option Word) → line.word ≡ o → closing o client (heard line e from) ≡ Ok turn → ClientMove rules client line e genuine turn
@@ -130,7 +124,7 @@ module _ (rules : Rules) (client : Client) (line : Line) (e : Entry) (genuine : 
           (λ again q1. not_ok q1)
           (λ new q1. way (not genuine) q1
           (λ bad q2. not_ok q2)
-          (λ good q2. quorum_view (record { kind = k; stage = is_reading_at line.stage reading; round = eqb-true e.round line.round round; inside = is; uncounted = new; checks = not-false _ good }) q2))
+          (λ good q2. quorum_view (record { kind = k; stage = reading_is line.stage reading; round = eqb-true e.round line.round round; inside = is; uncounted = new; checks = not-false _ good }) q2))
         where
           quorum_view : Hears line e genuine from → pair_heard rules client (heard line e from) ≡ Ok turn → ClientMove rules client line e genuine turn
           quorum_view h q =

@@ -1,8 +1,8 @@
 -- The steps of a client that leave the log as it is and ask for nothing: counting, going on in a new configuration, and answering BEHIND.
 -- Each lemma builds the world that comes of one of its moves.
-use Rattle.std.proofs.Common.{◌≡◌, ℕ, ◌<◌, ◌≤◌, true, false, ◌⊎◌, List, length, sym, refl, ap, subst, inl, inr, ⊎_elim, arith}
+use Rattle.std.proofs.Common.{◌≡◌, ℕ, ◌<◌, ◌≤◌, true, false, List, length, sym, refl, ap, subst, ⊎_elim, arith}
 use lib.Count.{ones}
-use Rattle.std.proofs.lemmas.Bool.{both_ways, leb-false}
+use Rattle.std.proofs.lemmas.Bool.{leb-false}
 use Rattle.wire.specs.declared.text.Text.{Text}
 use Rattle.wire.specs.Entries.{kind_of, configuration_of}
 use Rattle.wire.specs.Sets.{member, inserted}
@@ -10,9 +10,7 @@ use Rattle.wire.specs.Parties.{Client, Replica}
 use Rattle.rules.specs.Genuine.{quorum_size, genuine_by_kind, genuine_entry}
 use Rattle.rules.specs.Posts.{config_entry}
 use Rattle.clients.specs.declared.line.Line.{Line}
-use Rattle.clients.specs.declared.line.Stage.{Stage}
-use Rattle.clients.specs.declared.line.Stage.TheVariants.{Idle, Reading, Writing, WritingBack, Over}
-use Rattle.clients.specs.Lines.{is_open, is_writing, counting}
+use Rattle.clients.specs.Lines.{is_open, counting}
 use Rattle.clients.specs.Turns.{is_quorum}
 use Rattle.quorums.specs.Quorums.{Within}
 use Rattle.quorums.proofs.Insertion.{inserted_within}
@@ -31,6 +29,7 @@ use Rattle.wire.proofs.Made.{single_within}
 use Rattle.model.proofs.Seals.{checked_configuration}
 use Rattle.model.proofs.Seats.{with_line, base_here, stay_keeps}
 use Rattle.model.proofs.Stages.{seat_idle, seat_reading, seat_writing, seat_back, seat_over}
+use Rattle.model.proofs.StageTests.{writing_cases, closed_cases}
 
 -- the numbers of clients are 1 and above, and below 100
 pub client_low : (client : Client) → 1 ≤ client.number
@@ -38,20 +37,6 @@ client_low client = (single_within client).0
 
 pub client_high : (client : Client) → client.number < 100
 client_high client = omega (arith, (single_within client).1)
-
-pub writing_cases : (s : Stage) → is_writing s ≡ true → (s ≡ Writing) ⊎ (s ≡ WritingBack)
-writing_cases Idle p = absurd (both_ways true (sym p) refl)
-writing_cases Reading p = absurd (both_ways true (sym p) refl)
-writing_cases Writing p = inl refl
-writing_cases WritingBack p = inr refl
-writing_cases Over p = absurd (both_ways true (sym p) refl)
-
-closed_cases : (s : Stage) → is_open s ≡ false → (s ≡ Idle) ⊎ (s ≡ Over)
-closed_cases Idle p = inl refl
-closed_cases Reading p = absurd (both_ways true p refl)
-closed_cases Writing p = absurd (both_ways true p refl)
-closed_cases WritingBack p = absurd (both_ways true p refl)
-closed_cases Over p = inr refl
 
 -- one more is counted, and they are still too few
 pub open_counted : {w : World} {c : ℕ} {seat : Seat} (line : Line) (from : Replica) → line.counted.0 ≡ inserted seat.line.counted.0 from.number → line.configuration ≡ seat.line.configuration

@@ -21,10 +21,11 @@ use Rattle.model.specs.Beginning.{new_operation}
 use Rattle.model.specs.Calls.{Call, issue, begin_read, begin_write, deliver, call_off, collect, lodge, redeem, meddle, Step}
 use Rattle.model.specs.Delivering.{client_moves, entry_of, logged}
 use Rattle.model.proofs.Effects.{Effect, stands, issues, starts, client_steps, replica_steps, calls_off, collects_it, lodges, redeems, meddles, BeginCall, answer_is, hall_is, effect_of}
-use Rattle.model.proofs.ClientEvents.{turned, LineChange, unchanged, stamps_now, ends_now, line_change, opens_busy}
+use Rattle.model.proofs.ClientEvents.{turned, LineChange, unchanged, stamps_now, ends_now, line_change}
 use Rattle.model.proofs.Invariants.{OwnRule, SeatRule, Holds}
 use Rattle.model.proofs.Posts.{before_end, at_end}
 use Rattle.model.proofs.SlipKeeps.{seat_same}
+use Rattle.model.proofs.StageTests.{opens_busy}
 
 -- nothing began or ended
 pub record SameLog (h h' : Hall) : Type 0 where

@@ -1,6 +1,7 @@
 pub mod Invariants
 pub mod Stamps
 pub mod Ways
+pub mod StageTests
 pub mod Stages
 pub mod Frames
 pub mod Seals

@@ -9,8 +9,7 @@ use Rattle.wire.specs.Parties.{Client}
 use Rattle.rules.specs.declared.rules.Rules.{Rules}
 use Rattle.rules.specs.Genuine.{genuine_entry}
 use Rattle.clients.specs.declared.line.Line.{Line}
-use Rattle.clients.specs.declared.line.Stage.{Stage}
-use Rattle.clients.specs.declared.line.Stage.TheVariants.{Idle, Reading, Writing, WritingBack, Over}
+use Rattle.clients.specs.declared.line.Stage.TheVariants.{Reading, Over}
 use Rattle.clients.specs.declared.turn.Turn.{Turn}
 use Rattle.clients.specs.declared.turn.Turn.TheVariants.{Moves, Stamps}
 use Rattle.clients.specs.Lines.{is_open, is_idle}
@@ -20,7 +19,7 @@ use Rattle.halls.specs.declared.seat.Seat.{Seat}
 use Rattle.model.specs.Halls.{Hall, World, Kind, no_seat, seat_of}
 use Rattle.model.specs.Answers.{Answer, done, slip}
 use Rattle.model.specs.Calls.{Call, deliver, call_off}
-use Rattle.model.specs.Delivering.{entry_of, is_over, client_moves}
+use Rattle.model.specs.Delivering.{entry_of, client_moves}
 use Rattle.model.specs.Slips.{released}
 use Rattle.model.proofs.ClientEvents.{Turned, moved_to, stamped_to, turned}
 use Rattle.model.proofs.ClientMoves.{ClientMove, counts_pair, ends_read, writes_back, takes_stamp, counts_ack, ends_write, goes_on, reads_again, writes_again, replies}
@@ -28,6 +27,7 @@ use Rattle.model.proofs.Effects.{Effect, stands, issues, starts, client_steps, r
 use Rattle.model.proofs.Events.{begins_slip, refused_begins_none, slip_same}
 use Rattle.model.proofs.Invariants.{Holds}
 use Rattle.model.proofs.SlipKeeps.{seat_same, seat_other}
+use Rattle.model.proofs.StageTests.{over_shut, idle_shut}
 
 -- a line goes on to another: rounds do not fall, and a round that is still open is in the stage that it was in
 -- and has counted all that it had
@@ -112,21 +112,6 @@ pub data SeatTurn {V : Type 0} (kind : Kind V) (w : World) (call : Call V) (a : 
   -- the client is idle: its operation was called off, or it was over and is collected
   frees : (call ≡ call_off c (seat_of w.hall c).operation) × (a ≡ done) ⊎ (is_open (seat_of w.hall c).line.stage ≡ false)
       → (seat_of h' c).line ≡ released (seat_of w.hall c).line → SeatTurn kind w call a h' c
-
--- the stages, by what they are
-over_shut : (s : Stage) → is_over s ≡ true → is_open s ≡ false
-over_shut Idle e = refl
-over_shut Reading e = sym e
-over_shut Writing e = sym e
-over_shut WritingBack e = sym e
-over_shut Over e = refl
-
-pub idle_shut : (s : Stage) → is_idle s ≡ true → is_open s ≡ false
-idle_shut Idle e = refl
-idle_shut Reading e = sym e
-idle_shut Writing e = sym e
-idle_shut WritingBack e = sym e
-idle_shut Over e = refl
 
 module _ {V : Type 0} (kind : Kind V) (sealed : List Text) (w : World) (holds : Holds kind.number sealed w) (call : Call V) (a : Answer V) (h' : Hall) (c : ℕ) (low : 1 ≤ c) (high : c ≤ w.hall.rules.clients) where
   -- the seats are the old ones

@@ -11,14 +11,12 @@ use Rattle.wire.specs.Parties.{Client}
 use Rattle.stores.specs.declared.card.Card.{Card}
 use Rattle.sealers.specs.Sealing.{spent}
 use Rattle.clients.specs.declared.line.Line.{Line}
-use Rattle.clients.specs.declared.line.Stage.{Stage}
-use Rattle.clients.specs.declared.line.Stage.TheVariants.{Idle, Reading, Writing, WritingBack, Over}
 use Rattle.source.specs.Issued.{next_text}
 use Rattle.halls.specs.declared.fault.HallFault.{HallFault}
 use Rattle.model.specs.Halls.{Hall, World, Kind, seat_of, with_seat, with_store}
 use Rattle.model.specs.Answers.{Answer, refused}
 use Rattle.model.specs.Calls.{Call, issue, begin_read, begin_write, deliver, call_off, collect, lodge, redeem, meddle, Step, sealed_in, text_if_done, text_if_stamped, GenuineThen}
-use Rattle.model.specs.Delivering.{posting, client_moves, is_stamping}
+use Rattle.model.specs.Delivering.{posting, client_moves}
 use Rattle.model.specs.Meddling.{sent_by}
 use Rattle.model.specs.Slips.{freed, holding_slip}
 use Rattle.model.proofs.BeginKeeps.{begin_keeps}
@@ -30,6 +28,7 @@ use Rattle.model.proofs.Posts.{open_keeps}
 use Rattle.model.proofs.ReplicaKeeps.{replica_keeps, replica_world}
 use Rattle.model.proofs.ReplicaPosts.{replica_posts}
 use Rattle.model.proofs.SlipKeeps.{one_seat_keeps, freed_rule, lodged_rule, seat_same}
+use Rattle.model.proofs.StageTests.{same_stamping}
 
 -- the world with another hall
 abbrev pub in_hall : World → Hall → World
@@ -37,14 +36,7 @@ in_hall w h = record w { hall = h }
 
 -- a line that stays takes no stamp
 pub stamps_not : (kind : ℕ) (l : Line) → text_if_stamped kind l l ≡ None
-stamps_not kind l = by_stage l.stage
-  where
-    by_stage : (s : Stage) → cond (is_stamping s s) (Some (pair_text kind l.highest)) None ≡ None
-    by_stage Idle = refl
-    by_stage Reading = refl
-    by_stage Writing = refl
-    by_stage WritingBack = refl
-    by_stage Over = refl
+stamps_not kind l = ap (λ b. cond b (Some (pair_text kind l.highest)) None) (same_stamping l.stage)
 
 -- the text that a call has sealed, by its answer and the hall that it left
 abbrev sealed_by : {V : Type 0} → Kind V → World → Answer V → Hall → Call V → Option Text

@@ -6,8 +6,7 @@ use native.Mathlib.Decide.{ℕ_discrete, dec_lt}
 use borrow.Author.Tests.{clash}
 use Rattle.kinds.specs.declared.word.Word.{Word}
 use Rattle.wire.specs.declared.pair.Pair.{Pair}
-use Rattle.clients.specs.declared.line.Stage.{Stage}
-use Rattle.clients.specs.declared.line.Stage.TheVariants.{Idle, Reading, Writing, WritingBack, Over}
+use Rattle.clients.specs.declared.line.Stage.TheVariants.{Over}
 use Rattle.clients.specs.Lines.{is_idle}
 use Rattle.model.specs.Halls.{Hall, World, Kind, seat_of, operation_of, has_its_tables, end_of}
 use Rattle.model.specs.Answers.{slip, Outcome}
@@ -22,6 +21,7 @@ use Rattle.model.proofs.Growing.{Grows, grows_same, grows_trans, event_grows, en
 use Rattle.model.proofs.Invariants.{KnownPair, the_opening, a_write as of_a_write, Holds}
 use Rattle.model.proofs.RunKeeps.{sealed_at, holds_at}
 use Rattle.model.proofs.Ways.{way_in, both, not_some}
+use Rattle.model.proofs.StageTests.{over_is}
 
 module _ {V : Type 0} (kind : Kind V) (v : V) (start : World) (lawful : Lawful kind) (opened : Opened kind v start.hall) (run : Run kind start) (unforged : Unforged run) where
   abbrev hall_at : ℕ → Hall
@@ -276,13 +276,6 @@ module _ {V : Type 0} (kind : Kind V) (v : V) (start : World) (lawful : Lawful k
       (λ over z. by_value (not-false _ its) (not-false _ over) (kind.value (seat_of (hall_at i) c).line.highest.word) refl z)))
       (λ t q. not_some q)
     where
-      over_is : (s : Stage) → is_over s ≡ true → s ≡ Over
-      over_is Idle e = absurd (clash e)
-      over_is Reading e = absurd (clash e)
-      over_is Writing e = absurd (clash e)
-      over_is WritingBack e = absurd (clash e)
-      over_is Over e = refl
-
       by_value : is_its_slip (hall_at i) c k ≡ true → is_over (seat_of (hall_at i) c).line.stage ≡ true → (o : Option V) → kind.value (seat_of (hall_at i) c).line.highest.word ≡ o
           → value_answered (collecting o (hall_at i) c (seat_of (hall_at i) c).line.highest).answer ≡ Some u → Collected i c k u
       by_value its over None is z = not_some z
