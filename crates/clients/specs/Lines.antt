@@ -101,16 +101,7 @@ hearing line from pair = record line {
 
 -- the write's stamp is taken: its pair in flight, in the next round, and its count the client's last
 abbrev pub stamped : Line → ℕ → Pair → Line
-stamped line round pair = record {
-  stage = Writing;
-  word = line.word;
-  configuration = line.configuration;
-  round = round;
-  counted = record { 0 = 0 };
-  highest = pair;
-  agree = true;
-  last_count = pair.stamp.count;
-}
+stamped line round pair = record (opened line Writing round pair) { last_count = pair.stamp.count }
 
 -- the pair in flight with its seal
 abbrev pub sealed_with : Line → Seal → Line
