@@ -2,7 +2,7 @@
 // An item is put behind the list or changed in its place, and is handed back where that cannot be.
 #![tactic(auto)]
 
-ghost use Rattle.std.specs.Prelude.{◌≡◌, ◌+◌, ◌≤◌, [], length};
+ghost use Rattle.std.specs.Prelude.{◌≡◌, ◌+◌, ◌≤◌, [], ◌++◌, length};
 
 // The first `used` elements of the slice are the list, and the rest is room.
 // Stays: a slice with its used length, not a `Vec`: memory is lent by the caller.
@@ -79,5 +79,14 @@ impl<'a, T: Drop> List<'a, T> {
         }
         self.items[place] = item;
         Ok(())
+    }
+
+    // Empties the list; what the slice holds stays there as room.
+    pub fn clear(&mut self)
+        ensures held { held self.new ≡ [] }
+        ensures behind { behind self.new ≡ held self.old ++ behind self.old }
+        ensures slice { slice self.new ≡ slice self.old }
+    {
+        self.used = 0;
     }
 }

@@ -1,0 +1,6 @@
+pub mod Worlds
+pub mod Seats
+pub mod Setups
+pub mod Views
+pub mod Openings
+pub mod Grown

@@ -1,0 +1,102 @@
+// Begin: a client starts to read, or to write a value.
+ghost use Rattle.std.specs.Prelude.{◌≡◌, Some, None};
+ghost use Rattle.stores.specs.Saved.{Shelf};
+ghost use Rattle.model.specs.Beginning.{begin_called, new_operation};
+ghost use Rattle.register.specs.Worlds.{world_of, outcome, slip_or};
+
+use crate::hall::Hall;
+use crate::parties::party_in;
+use crate::slip::Slip;
+use crate::tables::{Tables, grow, is_full, put, seat_of};
+use clients::{ClientFault, begin};
+use halls::{HallFault, Operation, Seat};
+use kinds::{Kind, Word};
+use sealers::Sealer;
+use wire::{Client, Pair, Party};
+
+// The line of the log: begun at this moment, neither ended nor stamped.
+fn new_operation(client: Client, word: Option<Word>, moment: u32) -> Operation
+    ensures { result ≡ new_operation client.number word moment }
+{
+    Operation {
+        client: client.number(),
+        writes: word.is_some(),
+        began: moment,
+        ended: None,
+        pair: Pair {
+            word: word.unwrap_or_default(),
+            ..Pair::default()
+        },
+    }
+}
+
+impl Hall {
+    // Posts READ and logs the operation: a read, or a write of this word.
+    fn begin<L: Sealer>(
+        &mut self,
+        tables: &mut Tables,
+        number: u64,
+        word: Option<Word>,
+        sealer: &L,
+    ) -> Result<Slip, HallFault>
+        ensures { (shelf : Shelf) → outcome {V = Unit {0}} (slip_or result) self.new tables.new shelf (L.Sealer.desk sealer.now) ≡ begin_called (world_of self.old tables.old shelf (L.Sealer.desk sealer.now)) number word }
+    {
+        if !self.has_its_tables(tables) {
+            return Err(HallFault::WrongTables);
+        }
+        let Some(Party::Client(client)) = party_in(&self.rules, number) else {
+            return Err(HallFault::NoSuch(number));
+        };
+        let seat = seat_of(tables, client.number());
+        if !seat.line.stage.is_idle() {
+            return Err(HallFault::Client(ClientFault::Busy(client)));
+        }
+        if is_full(&tables.log) || is_full(&tables.post) || self.moment == u32::MAX {
+            return Err(HallFault::Full(number));
+        }
+        let mut line = seat.line;
+        let read = begin(client, &mut line, word, sealer)?;
+        let operation = tables.log.len() as u32;
+        self.moment += 1;
+        put(
+            tables.seats,
+            client.number(),
+            Seat {
+                line,
+                operation,
+                ..seat
+            },
+        );
+        grow(&mut tables.post, read);
+        grow(&mut tables.log, new_operation(client, word, self.moment));
+        Ok(Slip {
+            client: client.number(),
+            operation,
+        })
+    }
+
+    // Begins a read.
+    pub fn begin_read<L: Sealer>(
+        &mut self,
+        tables: &mut Tables,
+        client: u64,
+        sealer: &L,
+    ) -> Result<Slip, HallFault>
+        ensures { (shelf : Shelf) → outcome {V = Unit {0}} (slip_or result) self.new tables.new shelf (L.Sealer.desk sealer.now) ≡ begin_called (world_of self.old tables.old shelf (L.Sealer.desk sealer.now)) client None }
+    {
+        self.begin::<L>(tables, client, None, sealer)
+    }
+
+    // Begins a write of this value.
+    pub fn begin_write<K: Kind, L: Sealer>(
+        &mut self,
+        tables: &mut Tables,
+        client: u64,
+        value: K,
+        sealer: &L,
+    ) -> Result<Slip, HallFault>
+        ensures { (shelf : Shelf) → outcome {V = Unit {0}} (slip_or result) self.new tables.new shelf (L.Sealer.desk sealer.now) ≡ begin_called (world_of self.old tables.old shelf (L.Sealer.desk sealer.now)) client (Some (K.Kind.word value)) }
+    {
+        self.begin::<L>(tables, client, Some(value.to_word()), sealer)
+    }
+}

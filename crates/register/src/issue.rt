@@ -1,0 +1,47 @@
+// Issue: the source seals and posts the next configuration.
+ghost use Rattle.std.specs.Prelude.{◌≡◌};
+ghost use Rattle.stores.specs.Saved.{Shelf};
+ghost use Rattle.source.specs.Issued.{next_text};
+ghost use Rattle.model.specs.Issuing.{issue_called};
+ghost use Rattle.model.specs.Calls.{GenuineThen, text_if_done};
+ghost use Rattle.register.specs.Worlds.{world_of, outcome, done_or};
+
+use crate::hall::Hall;
+use crate::sets::{has_too_many_marked, is_right_set};
+use crate::tables::{Tables, grow, is_full};
+use halls::HallFault;
+use rules::configured;
+use sealers::Sealer;
+use wire::{EntryKind, Party, ReplicaSet};
+
+impl Hall {
+    // Puts the configuration with this set on the roll, and posts it in the source's name.
+    pub fn issue<L: Sealer>(
+        &mut self,
+        tables: &mut Tables,
+        set: ReplicaSet,
+        sealer: &mut L,
+    ) -> Result<(), HallFault>
+        ensures change { (shelf : Shelf) → outcome {V = Unit {0}} (done_or result) self.new tables.new shelf (L.Sealer.desk sealer.new) ≡ issue_called (world_of self.old tables.old shelf (L.Sealer.desk sealer.old)) set }
+        ensures grows { (shelf : Shelf) → let before = world_of self.old tables.old shelf (L.Sealer.desk sealer.old) in GenuineThen (text_if_done {V = Unit {0}} (issue_called before set).answer (next_text self.old.source set)) before (L.Sealer.desk sealer.new).genuine }
+    {
+        if !self.has_its_tables(tables) {
+            return Err(HallFault::WrongTables);
+        }
+        if !is_right_set(&self.rules, set) {
+            return Err(HallFault::WrongSet);
+        }
+        if has_too_many_marked(&self.rules, self.marked, set) {
+            return Err(HallFault::TooManyMarked(0));
+        }
+        if is_full(&tables.roll) || is_full(&tables.post) {
+            return Err(HallFault::Full(0));
+        }
+        let configuration = self.source.issue(set, sealer)?;
+        grow(&mut tables.roll, configuration);
+        let sender = u8::from(Party::Source);
+        let entry = configured(sender, EntryKind::Config, configuration);
+        grow(&mut tables.post, entry);
+        Ok(())
+    }
+}
