@@ -1,10 +1,11 @@
 // The opening of a hall: a first card for each replica, and tables with which nothing has been done yet.
 ghost use Rattle.std.specs.Prelude.{◌≡◌, ◌<◌, ◌≤◌, false, Ok, IfOk, IfErr};
 ghost use Rattle.stores.specs.Saved.{after, saved};
+ghost use Rattle.model.specs.Promise.{Promised};
 ghost use Rattle.model.specs.Runs.{Opened, first_card, first_seat};
 ghost use Rattle.register.specs.Openings.{admitted, laid_out, opened, opening_with, refused_by, too_few, fewer, with_first_cards};
 ghost use Rattle.register.specs.Views.{lent, lengths_or, fault_of, Stands};
-ghost use Rattle.register.specs.Worlds.{hall_of};
+ghost use Rattle.register.specs.Worlds.{hall_of, world_of};
 
 use crate::hall::Hall;
 use crate::lengths::Lengths;
@@ -114,6 +115,7 @@ impl Setup {
         ensures fault { fault_of result ≡ refused_by (admitted self.rules (lent tables.old) (S.Store.shelf store.old).saves) }
         ensures leaves { IfOk result (λ hall. hall_of hall tables.new (S.Store.shelf store.new) (L.Sealer.desk sealer.now) ≡ opened (opening_with self.rules (K.Kind.word value)) self.marked.0 (lent tables.old) (S.Store.shelf store.old) (L.Sealer.desk sealer.now)) }
         ensures right { IfOk result (λ hall. Opened (record { number = K.Kind.NUMBER; word = K.Kind.word; value = K.Kind.value }) value (hall_of hall tables.new (S.Store.shelf store.new) (L.Sealer.desk sealer.now))) }
+        ensures promise { IfOk result (λ hall. Promised (record { number = K.Kind.NUMBER; word = K.Kind.word; value = K.Kind.value }) value (world_of hall tables.new (S.Store.shelf store.new) (L.Sealer.desk sealer.now))) }
         ensures stands { IfErr result (λ refused. Stands self refused.0 tables.old tables.new (S.Store.shelf store.old) (S.Store.shelf store.new)) }
     {
         let lengths = match self.admits(tables, &*store) {

@@ -2,6 +2,7 @@ use Rattle.std.proofs.Common.{rules, ◌≡◌, Ok, refl}
 use Rattle.register.specs.Openings.{opening_with, admitted}
 use Rattle.register.specs.Views.{lent, lengths}
 use Rattle.register.proofs.Opening.{opening_holds, tables_right}
+use Rattle.model.proofs.Promised.{promised}
 use Rattle.register.proofs.setup.Setup.open.Goals as goal
 
 pub returns-clause-right : goal.returns-clause-right
@@ -15,3 +16,9 @@ returns-clause-right g c =
     (opening_with set_up.rules word) set_up.marked.0 tables before (g.L.Sealer.desk c.args.sealer.now)
     set_up.limits set_up.right set_up.few
     (tables_right set_up.rules tables before.saves (lengths c.in-Ok.lengths) admits) refl _ (search rules)
+
+pub returns-clause-promise : goal.returns-clause-promise
+returns-clause-promise g c =
+    promised (record { number = g.K.Kind.NUMBER; word = g.K.Kind.word; value = g.K.Kind.value }) c.args.value _
+    (record { numbered = g.met.K.Kind.numbered.1; kept = g.met.K.Kind.kept; exact = g.met.K.Kind.exact })
+    (returns-clause-right g c)
