@@ -1,4 +1,6 @@
 // The slip of an operation: it cannot be copied, and only the calls that take one in can let it go.
+ghost use Rattle.std.specs.Prelude.{◌≡◌};
+
 use halls::HallFault;
 
 // Plain numbers: the client, and the operation by its place in the log.
@@ -13,21 +15,21 @@ pub struct Kept {
     pub fault: HallFault,
 }
 
-// A slip that is neither collected, called off nor lodged is not let go: nobody can call this.
+// A slip that names no client is spent, and only a spent slip may be let go: one that is neither collected, called off nor lodged is not.
 impl Drop for Slip {
     fn drop(self)
-        requires { ⊥ }
+        requires { self.client ≡ 0 }
     {
-        self.spend();
-    }
-}
-
-impl Slip {
-    // Lets the slip go, for a call that has taken it in.
-    pub(crate) fn spend(self) {
         let Slip {
             client: _,
             operation: _,
         } = self;
+    }
+}
+
+impl Slip {
+    // Spends the slip, for a call that has taken it in.
+    pub(crate) fn spend(mut self) {
+        self.client = 0;
     }
 }
