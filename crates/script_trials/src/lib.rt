@@ -11,3 +11,6 @@ pub mod operations;
 pub mod stages;
 pub mod tables;
 pub mod transfer;
+
+#[cfg(test)]
+mod running;

@@ -1,0 +1,11 @@
+// Runs a script over a hall, and says what is printed.
+#![tactic(auto)]
+
+mod fault;
+mod memory;
+mod opening;
+mod play;
+mod running;
+
+pub use fault::ScriptFault;
+pub use play::{LIMIT, run};
