@@ -160,7 +160,8 @@ pub fn run(heap: Global, text: &[u8]) -> Result<String, AllocError>
     ensures { IfOk result (λ s. IsReport (string_bytes s)) }
 {
     let mut refusals = Vec::new(heap);
-    let mut lines = lines_of(text);
+    let read = &text[..text.len().min(LIMIT as usize)];
+    let mut lines = lines_of(read);
     match first_set_up(&mut lines, &mut refusals)? {
         Some((number, asked)) => play(heap, number, asked, lines, refusals),
         None => report(heap, &[], &[], refusals.as_slice()),

@@ -8,9 +8,8 @@ pub mod liars;
 pub mod lines;
 pub mod openings;
 pub mod operations;
+#[cfg(test)]
+mod running;
 pub mod stages;
 pub mod tables;
 pub mod transfer;
-
-#[cfg(test)]
-mod running;
