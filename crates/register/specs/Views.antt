@@ -28,7 +28,7 @@ abbrev pub lengths_or : Result TheLengths HallFault → Result Lengths HallFault
 lengths_or (Ok l) = Ok (lengths l)
 lengths_or (Err fault) = Err fault
 
-abbrev pub fault_of : Result Hall (Setup × HallFault) → Option HallFault
+abbrev pub fault_of : {K : Type 0} → Result (Hall K) (Setup × HallFault) → Option HallFault
 fault_of (Ok hall) = None
 fault_of (Err refused) = Some refused.1
 

@@ -21,7 +21,7 @@ abbrev pub table : {T : Type 0} → Lent T → Table T
 table l = record { list = held l; rest = behind l }
 
 -- a hall, its tables, and the meanings of its store and its sealer
-abbrev pub hall_of : TheHall → Tables → Shelf → Desk → Hall
+abbrev pub hall_of : {K : Type 0} → TheHall K → Tables → Shelf → Desk → Hall
 hall_of h t shelf desk = record {
   rules = h.rules;
   marked = h.marked.0;
@@ -37,7 +37,7 @@ hall_of h t shelf desk = record {
   seals = desk.seals;
 }
 
-abbrev pub world_of : TheHall → Tables → Shelf → Desk → World
+abbrev pub world_of : {K : Type 0} → TheHall K → Tables → Shelf → Desk → World
 world_of h t shelf desk = record {
   hall = hall_of h t shelf desk;
   next = shelf.next;
@@ -46,7 +46,7 @@ world_of h t shelf desk = record {
 }
 
 -- store and sealer of a hall where they do not matter: nothing is kept, and nothing sealed
-abbrev pub bare : TheHall → Tables → Hall
+abbrev pub bare : {K : Type 0} → TheHall K → Tables → Hall
 bare h t = hall_of h t
     (record { place = λ n. None; saves = None; next = 0 })
     (record { genuine = λ t s. false; seals = λ p. 0; given = λ t. record { 0 = 0 } })
@@ -75,5 +75,5 @@ slip_or (Ok s) = slip s.client s.operation
 slip_or (Err fault) = refused fault
 
 -- what a call answers and leaves
-abbrev pub outcome : {V : Type 0} → Answer V → TheHall → Tables → Shelf → Desk → Outcome V
+abbrev pub outcome : {K V : Type 0} → Answer V → TheHall K → Tables → Shelf → Desk → Outcome V
 outcome answer h t shelf desk = record { answer = answer; hall = hall_of h t shelf desk }

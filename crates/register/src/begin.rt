@@ -30,7 +30,7 @@ fn new_operation(client: Client, word: Option<Word>, moment: u32) -> Operation
     }
 }
 
-impl Hall {
+impl<K: Kind> Hall<K> {
     // Posts READ and logs the operation: a read, or a write of this word.
     fn begin<L: Sealer>(
         &mut self,
@@ -39,7 +39,7 @@ impl Hall {
         word: Option<Word>,
         sealer: &L,
     ) -> Result<Slip, HallFault>
-        ensures { (shelf : Shelf) → outcome {V = Unit {0}} (slip_or result) self.new tables.new shelf (L.Sealer.desk sealer.now) ≡ begin_called (world_of self.old tables.old shelf (L.Sealer.desk sealer.now)) number word }
+        ensures { (shelf : Shelf) → outcome {V = K} (slip_or result) self.new tables.new shelf (L.Sealer.desk sealer.now) ≡ begin_called (world_of self.old tables.old shelf (L.Sealer.desk sealer.now)) number word }
     {
         if !self.has_its_tables(tables) {
             return Err(HallFault::WrongTables);
@@ -82,20 +82,20 @@ impl Hall {
         client: u64,
         sealer: &L,
     ) -> Result<Slip, HallFault>
-        ensures { (shelf : Shelf) → outcome {V = Unit {0}} (slip_or result) self.new tables.new shelf (L.Sealer.desk sealer.now) ≡ begin_called (world_of self.old tables.old shelf (L.Sealer.desk sealer.now)) client None }
+        ensures { (shelf : Shelf) → outcome {V = K} (slip_or result) self.new tables.new shelf (L.Sealer.desk sealer.now) ≡ begin_called (world_of self.old tables.old shelf (L.Sealer.desk sealer.now)) client None }
     {
         self.begin::<L>(tables, client, None, sealer)
     }
 
     // Begins a write of this value.
-    pub fn begin_write<K: Kind, L: Sealer>(
+    pub fn begin_write<L: Sealer>(
         &mut self,
         tables: &mut Tables,
         client: u64,
         value: K,
         sealer: &L,
     ) -> Result<Slip, HallFault>
-        ensures { (shelf : Shelf) → outcome {V = Unit {0}} (slip_or result) self.new tables.new shelf (L.Sealer.desk sealer.now) ≡ begin_called (world_of self.old tables.old shelf (L.Sealer.desk sealer.now)) client (Some (K.Kind.word value)) }
+        ensures { (shelf : Shelf) → outcome {V = K} (slip_or result) self.new tables.new shelf (L.Sealer.desk sealer.now) ≡ begin_called (world_of self.old tables.old shelf (L.Sealer.desk sealer.now)) client (Some (K.Kind.word value)) }
     {
         self.begin::<L>(tables, client, Some(value.to_word()), sealer)
     }

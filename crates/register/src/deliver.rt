@@ -21,7 +21,7 @@ use sealers::Sealer;
 use stores::Store;
 use wire::{Client, Entry, Party, Replica};
 
-impl Hall {
+impl<K: Kind> Hall<K> {
     // Keeps what a step of this client has made of its line, and posts what it answers.
     fn client_moves(
         &mut self,
@@ -45,7 +45,7 @@ impl Hall {
     }
 
     // Hands an entry to a client.
-    fn deliver_to_client<K: Kind, L: Sealer>(
+    fn deliver_to_client<L: Sealer>(
         &mut self,
         tables: &mut Tables,
         client: Client,
@@ -57,7 +57,7 @@ impl Hall {
         requires time { self.old.moment < 4294967295 }
         requires within { client.number - 1 < length tables.old.seats.now }
         requires seated { seat ≡ slice_index_or tables.old.seats.now (client.number - 1) no_seat }
-        ensures change { (shelf : Shelf) (number : ℕ) → outcome {V = Unit {0}} (stepped_or number result) self.new tables.new shelf (L.Sealer.desk sealer.new) ≡ client_done (client_step_of (world_of self.old tables.old shelf (L.Sealer.desk sealer.old)) K.Kind.NUMBER client entry.now) number (hall_of self.old tables.old shelf (L.Sealer.desk sealer.old)) client }
+        ensures change { (shelf : Shelf) (number : ℕ) → outcome {V = K} (stepped_or number result) self.new tables.new shelf (L.Sealer.desk sealer.new) ≡ client_done (client_step_of (world_of self.old tables.old shelf (L.Sealer.desk sealer.old)) K.Kind.NUMBER client entry.now) number (hall_of self.old tables.old shelf (L.Sealer.desk sealer.old)) client }
         ensures grows { (shelf : Shelf) → GenuineThen (text_if_stamped K.Kind.NUMBER (seat_of (bare self.old tables.old) client.number).line (seat_of (bare self.new tables.new) client.number).line) (world_of self.old tables.old shelf (L.Sealer.desk sealer.old)) (L.Sealer.desk sealer.new).genuine }
     {
         let mut line = seat.line;
@@ -67,7 +67,7 @@ impl Hall {
     }
 
     // Hands an entry to a replica.
-    fn deliver_to_replica<K: Kind, S: Store, L: Sealer>(
+    fn deliver_to_replica<S: Store, L: Sealer>(
         &mut self,
         tables: &mut Tables,
         replica: Replica,
@@ -76,7 +76,7 @@ impl Hall {
         sealer: &L,
     ) -> Result<(), StepFault>
         requires room { is_full (table tables.old.post) ≡ false }
-        ensures change { (number : ℕ) → outcome {V = Unit {0}} (stepped_or number result) self.new tables.new (S.Store.shelf store.new) (L.Sealer.desk sealer.now) ≡ replica_done (replica_step_of (world_of self.old tables.old (S.Store.shelf store.old) (L.Sealer.desk sealer.now)) K.Kind.NUMBER replica entry.now) number (hall_of self.old tables.old (S.Store.shelf store.old) (L.Sealer.desk sealer.now)) }
+        ensures change { (number : ℕ) → outcome {V = K} (stepped_or number result) self.new tables.new (S.Store.shelf store.new) (L.Sealer.desk sealer.now) ≡ replica_done (replica_step_of (world_of self.old tables.old (S.Store.shelf store.old) (L.Sealer.desk sealer.now)) K.Kind.NUMBER replica entry.now) number (hall_of self.old tables.old (S.Store.shelf store.old) (L.Sealer.desk sealer.now)) }
         ensures seats { tables.new.seats.now ≡ tables.old.seats.now }
     {
         let post = replica_step::<K, S, L>(&self.rules, replica, entry, store, sealer)?;
@@ -88,7 +88,7 @@ impl Hall {
 
     // Hands the entry of this number to the party of this number, which makes its step.
     #[tactic(auto, using(crate::proofs::Seals::stays_unsealed))]
-    pub fn deliver<K: Kind, S: Store, L: Sealer>(
+    pub fn deliver<S: Store, L: Sealer>(
         &mut self,
         tables: &mut Tables,
         number: u64,
@@ -96,7 +96,7 @@ impl Hall {
         store: &mut S,
         sealer: &mut L,
     ) -> Result<(), HallFault>
-        ensures change { outcome {V = Unit {0}} (done_or result) self.new tables.new (S.Store.shelf store.new) (L.Sealer.desk sealer.new) ≡ deliver_called (world_of self.old tables.old (S.Store.shelf store.old) (L.Sealer.desk sealer.old)) K.Kind.NUMBER number party }
+        ensures change { outcome {V = K} (done_or result) self.new tables.new (S.Store.shelf store.new) (L.Sealer.desk sealer.new) ≡ deliver_called (world_of self.old tables.old (S.Store.shelf store.old) (L.Sealer.desk sealer.old)) K.Kind.NUMBER number party }
         ensures grows { GenuineThen (text_if_stamped K.Kind.NUMBER (seat_of (bare self.old tables.old) party).line (seat_of (bare self.new tables.new) party).line) (world_of self.old tables.old (S.Store.shelf store.old) (L.Sealer.desk sealer.old)) (L.Sealer.desk sealer.new).genuine }
     {
         if !self.has_its_tables(tables) {
@@ -111,11 +111,11 @@ impl Hall {
         match party {
             Party::Client(client) if fits_client(&entry, client) => {
                 let seat = seat_of(tables, client.number());
-                self.deliver_to_client::<K, L>(tables, client, seat, &entry, sealer)
+                self.deliver_to_client::<L>(tables, client, seat, &entry, sealer)
                     .map_err(|fault| HallFault::Step(number, fault))
             }
             Party::Replica(replica) if fits_replica(&entry, replica) => self
-                .deliver_to_replica::<K, S, L>(tables, replica, &entry, store, sealer)
+                .deliver_to_replica::<S, L>(tables, replica, &entry, store, sealer)
                 .map_err(|fault| HallFault::Step(number, fault)),
             _ => Err(HallFault::Unfit(number)),
         }

@@ -4,14 +4,16 @@ ghost use Rattle.rules.specs.Genuine.{is_client};
 ghost use Rattle.model.specs.Halls.{has_its_tables};
 ghost use Rattle.register.specs.Worlds.{bare};
 
+use kinds::Kind;
 use crate::lengths::Lengths;
 use crate::tables::Tables;
 use rules::Rules;
 use source::Source;
+use std::marker::PhantomData;
 use wire::ReplicaSet;
 
 #[derive(Drop)]
-pub struct Hall {
+pub struct Hall<K> {
     pub(crate) rules: Rules,
     // the replicas that may lie
     pub(crate) marked: ReplicaSet,
@@ -20,9 +22,11 @@ pub struct Hall {
     pub(crate) source: Source,
     // how many moments have been counted
     pub(crate) moment: u32,
+    // the kind of the values that it keeps
+    pub(crate) kind: PhantomData<K>,
 }
 
-impl Hall {
+impl<K: Kind> Hall<K> {
     // Whether these tables are as long as at the opening, with a seat for each client.
     pub(crate) fn has_its_tables(&self, tables: &Tables) -> bool
         ensures { result ≡ has_its_tables (bare self.now tables.now) }

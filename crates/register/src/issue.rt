@@ -6,6 +6,7 @@ ghost use Rattle.model.specs.Issuing.{issue_called};
 ghost use Rattle.model.specs.Calls.{GenuineThen, text_if_done};
 ghost use Rattle.register.specs.Worlds.{world_of, outcome, done_or};
 
+use kinds::Kind;
 use crate::hall::Hall;
 use crate::sets::{has_too_many_marked, is_right_set};
 use crate::tables::{Tables, grow, is_full};
@@ -14,7 +15,7 @@ use rules::configured;
 use sealers::Sealer;
 use wire::{EntryKind, Party, ReplicaSet};
 
-impl Hall {
+impl<K: Kind> Hall<K> {
     // Puts the configuration with this set on the roll, and posts it in the source's name.
     pub fn issue<L: Sealer>(
         &mut self,
@@ -22,8 +23,8 @@ impl Hall {
         set: ReplicaSet,
         sealer: &mut L,
     ) -> Result<(), HallFault>
-        ensures change { (shelf : Shelf) → outcome {V = Unit {0}} (done_or result) self.new tables.new shelf (L.Sealer.desk sealer.new) ≡ issue_called (world_of self.old tables.old shelf (L.Sealer.desk sealer.old)) set }
-        ensures grows { (shelf : Shelf) → let before = world_of self.old tables.old shelf (L.Sealer.desk sealer.old) in GenuineThen (text_if_done {V = Unit {0}} (issue_called before set).answer (next_text self.old.source set)) before (L.Sealer.desk sealer.new).genuine }
+        ensures change { (shelf : Shelf) → outcome {V = K} (done_or result) self.new tables.new shelf (L.Sealer.desk sealer.new) ≡ issue_called (world_of self.old tables.old shelf (L.Sealer.desk sealer.old)) set }
+        ensures grows { (shelf : Shelf) → let before = world_of self.old tables.old shelf (L.Sealer.desk sealer.old) in GenuineThen (text_if_done {V = K} (issue_called before set).answer (next_text self.old.source set)) before (L.Sealer.desk sealer.new).genuine }
     {
         if !self.has_its_tables(tables) {
             return Err(HallFault::WrongTables);

@@ -5,16 +5,17 @@ ghost use Rattle.sealers.specs.Sealing.{Desk};
 ghost use Rattle.model.specs.Meddling.{meddle_called};
 ghost use Rattle.register.specs.Worlds.{world_of, outcome, done_or};
 
+use kinds::Kind;
 use crate::hall::Hall;
 use crate::parties::party_in;
 use crate::tables::{Tables, grow, is_full};
 use halls::HallFault;
 use wire::{Entry, Party};
 
-impl Hall {
+impl<K: Kind> Hall<K> {
     // Posts the entry in the name of the replica of this party number, if it is marked.
     pub fn meddle(&mut self, tables: &mut Tables, party: u64, entry: Entry) -> Result<(), HallFault>
-        ensures { (shelf : Shelf) (desk : Desk) → outcome {V = Unit {0}} (done_or result) self.new tables.new shelf desk ≡ meddle_called (world_of self.old tables.old shelf desk) party entry }
+        ensures { (shelf : Shelf) (desk : Desk) → outcome {V = K} (done_or result) self.new tables.new shelf desk ≡ meddle_called (world_of self.old tables.old shelf desk) party entry }
     {
         if !self.has_its_tables(tables) {
             return Err(HallFault::WrongTables);

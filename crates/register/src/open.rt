@@ -17,6 +17,7 @@ use kinds::Kind;
 use rules::Rules;
 use sealers::Sealer;
 use source::Source;
+use std::marker::PhantomData;
 use stores::{Card, Store, StoreFault};
 use wire::{Replica, ReplicaSet, Seal};
 
@@ -111,7 +112,7 @@ impl Setup {
         value: K,
         store: &mut S,
         sealer: &L,
-    ) -> Result<Hall, (Setup, HallFault)>
+    ) -> Result<Hall<K>, (Setup, HallFault)>
         ensures fault { fault_of result ≡ refused_by (admitted self.rules (lent tables.old) (S.Store.shelf store.old).saves) }
         ensures leaves { IfOk result (λ hall. hall_of hall tables.new (S.Store.shelf store.new) (L.Sealer.desk sealer.now) ≡ opened (opening_with self.rules (K.Kind.word value)) self.marked.0 (lent tables.old) (S.Store.shelf store.old) (L.Sealer.desk sealer.now)) }
         ensures right { IfOk result (λ hall. Opened (record { number = K.Kind.NUMBER; word = K.Kind.word; value = K.Kind.value }) value (hall_of hall tables.new (S.Store.shelf store.new) (L.Sealer.desk sealer.now))) }
@@ -136,6 +137,7 @@ impl Setup {
             lengths,
             source: Source::new(),
             moment: 0,
+            kind: PhantomData,
         })
     }
 }

@@ -39,7 +39,7 @@ fn holding_slip(seat: Seat, lodged: Option<u32>) -> Seat
     Seat { lodged, ..seat }
 }
 
-impl Hall {
+impl<K: Kind> Hall<K> {
     // The seat of the client whose present operation this is the slip of.
     fn its_seat(&self, tables: &Tables, slip: &Slip) -> Result<Seat, HallFault>
         ensures { result ≡ its_seat (bare self.now tables.now) slip.now.client slip.now.operation }
@@ -71,7 +71,7 @@ impl Hall {
 
     // Leaves the operation unfinished for good.
     pub fn call_off(&mut self, tables: &mut Tables, slip: Slip) -> Result<(), Kept>
-        ensures change { (shelf : Shelf) (desk : Desk) → outcome {V = Unit {0}} (done_or_kept result) self.new tables.new shelf desk ≡ call_off_called (world_of self.old tables.old shelf desk) slip.client slip.operation }
+        ensures change { (shelf : Shelf) (desk : Desk) → outcome {V = K} (done_or_kept result) self.new tables.new shelf desk ≡ call_off_called (world_of self.old tables.old shelf desk) slip.client slip.operation }
         ensures back { IfErr result (λ kept. kept.slip ≡ slip) }
     {
         match self.called_off(tables, &slip) {
@@ -85,7 +85,7 @@ impl Hall {
     }
 
     // The seat whose operation is over, and the value that it gives.
-    fn collected<K: Kind>(&self, tables: &Tables, slip: &Slip) -> Result<(Seat, K), HallFault>
+    fn collected(&self, tables: &Tables, slip: &Slip) -> Result<(Seat, K), HallFault>
         ensures { result ≡ collected K.Kind.value (bare self.now tables.now) slip.now.client slip.now.operation }
     {
         let seat = self.its_seat(tables, slip)?;
@@ -97,11 +97,11 @@ impl Hall {
     }
 
     // Gives the pair and the value of an operation that is over.
-    pub fn collect<K: Kind>(&mut self, tables: &mut Tables, slip: Slip) -> Result<(Pair, K), Kept>
+    pub fn collect(&mut self, tables: &mut Tables, slip: Slip) -> Result<(Pair, K), Kept>
         ensures change { (shelf : Shelf) (desk : Desk) → outcome (pair_or_kept result) self.new tables.new shelf desk ≡ collect_called (record { number = K.Kind.NUMBER; word = K.Kind.word; value = K.Kind.value }) (world_of self.old tables.old shelf desk) slip.client slip.operation }
         ensures back { IfErr result (λ kept. kept.slip ≡ slip) }
     {
-        match self.collected::<K>(tables, &slip) {
+        match self.collected(tables, &slip) {
             Ok((seat, value)) => {
                 put(tables.seats, slip.client, freed(seat));
                 slip.spend();
@@ -113,7 +113,7 @@ impl Hall {
 
     // Leaves the slip with its client's seat.
     pub fn lodge(&mut self, tables: &mut Tables, slip: Slip) -> Result<(), Kept>
-        ensures change { (shelf : Shelf) (desk : Desk) → outcome {V = Unit {0}} (done_or_kept result) self.new tables.new shelf desk ≡ lodge_called (world_of self.old tables.old shelf desk) slip.client slip.operation }
+        ensures change { (shelf : Shelf) (desk : Desk) → outcome {V = K} (done_or_kept result) self.new tables.new shelf desk ≡ lodge_called (world_of self.old tables.old shelf desk) slip.client slip.operation }
         ensures back { IfErr result (λ kept. kept.slip ≡ slip) }
     {
         match self.its_seat(tables, &slip) {
@@ -132,7 +132,7 @@ impl Hall {
 
     // Takes out the slip that is lodged with the client of this number.
     pub fn redeem(&mut self, tables: &mut Tables, client: u64) -> Result<Slip, HallFault>
-        ensures { (shelf : Shelf) (desk : Desk) → outcome {V = Unit {0}} (slip_or result) self.new tables.new shelf desk ≡ redeem_called (world_of self.old tables.old shelf desk) client }
+        ensures { (shelf : Shelf) (desk : Desk) → outcome {V = K} (slip_or result) self.new tables.new shelf desk ≡ redeem_called (world_of self.old tables.old shelf desk) client }
     {
         if !self.has_its_tables(tables) {
             return Err(HallFault::WrongTables);

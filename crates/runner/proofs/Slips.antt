@@ -207,7 +207,7 @@ module _ {V : Type 0} (w : World) (c k : ℕ) (h' : Hall) where
           (subst (λ m. begin_by {V = V} (Some (AClient client)) m w.hall word ≡ record { answer = slip c k; hall = h' }) (sym found.number) q)
 
 -- what is redeemed once it was looked at
-pub redeemed_if : (w : World) (n : ℕ) (r : Result Slip HallFault) (h : Hall) → holds_its_slip w.hall n ≡ true
-    → record { answer = slip_or {V = Unit {0}} r; hall = h } ≡ redeem_called w n → IfOk r (λ s. HasSlip h s.client s.operation)
-redeemed_if w n (Ok s) h holds p = redeemed {V = Unit {0}} w s.client s.operation h n holds p
+pub redeemed_if : {V : Type 0} (w : World) (n : ℕ) (r : Result Slip HallFault) (h : Hall) → holds_its_slip w.hall n ≡ true
+    → record { answer = slip_or {V = V} r; hall = h } ≡ redeem_called w n → IfOk r (λ s. HasSlip h s.client s.operation)
+redeemed_if {V} w n (Ok s) h holds p = redeemed {V = V} w s.client s.operation h n holds p
 redeemed_if w n (Err f) h holds p = tt

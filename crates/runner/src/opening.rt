@@ -24,7 +24,7 @@ pub(crate) fn open(
     tables: &mut Tables,
     store: &mut Cabinet,
     sealer: &Book,
-) -> Result<Hall, ScriptFault> {
+) -> Result<Hall<BinWeight>, ScriptFault> {
     let value = BinWeight::new(asked.grams, asked.lot)?;
     let mut setup = Setup::new(asked.faults, asked.replicas, asked.clients, asked.set)?;
     mark(&mut setup, asked.marked)?;

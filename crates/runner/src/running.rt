@@ -18,7 +18,7 @@ use wire::{Entry, ReplicaSet};
 
 #[derive(Drop)]
 pub(crate) struct Running<'a> {
-    pub(crate) hall: Hall,
+    pub(crate) hall: Hall<BinWeight>,
     pub(crate) tables: Tables<'a>,
     pub(crate) store: Cabinet,
     pub(crate) sealer: Book<'a>,
@@ -91,7 +91,7 @@ impl Running<'_> {
 
     fn collect(&mut self, client: u64) -> Result<(), HallFault> {
         let slip = self.redeem(client)?;
-        match self.hall.collect::<BinWeight>(&mut self.tables, slip) {
+        match self.hall.collect(&mut self.tables, slip) {
             Ok(_) => Ok(()),
             Err(kept) => Err(self.kept(kept)),
         }
@@ -102,7 +102,7 @@ impl Running<'_> {
     }
 
     fn deliver(&mut self, entry: u64, party: u64) -> Result<(), HallFault> {
-        self.hall.deliver::<BinWeight, Cabinet, Book>(
+        self.hall.deliver::<Cabinet, Book>(
             &mut self.tables,
             entry,
             party,

@@ -18,8 +18,8 @@ returns-in-Client-clause-change g c =
       time = search rules;
       fit = search rules;
     } in
-    let answer : done_or {V = Unit {0}} c.map_err.result ≡ stepped_or c.args.number c.deliver_to_client.result = search rules in
-    ap (λ a. outcome {V = Unit {0}} a c.deliver_to_client.new.self c.deliver_to_client.new.tables (g.S.Store.shelf c.args.store.now) after) answer
+    let answer : done_or {V = g.row.K.Denot} c.map_err.result ≡ stepped_or c.args.number c.deliver_to_client.result = search rules in
+    ap (λ a. outcome {V = g.row.K.Denot} a c.deliver_to_client.new.self c.deliver_to_client.new.tables (g.S.Store.shelf c.args.store.now) after) answer
     ∙ (c.deliver_to_client.ensures.change (g.S.Store.shelf c.args.store.now) c.args.number
-    ∙ (ap (λ (e : Entry). client_done {V = Unit {0}} (client_step_of w g.K.Kind.NUMBER c.in-Client.client e) c.args.number w.hall c.in-Client.client) entry
+    ∙ (ap (λ (e : Entry). client_done {V = g.row.K.Denot} (client_step_of w g.K.Kind.NUMBER c.in-Client.client e) c.args.number w.hall c.in-Client.client) entry
     ∙ sym (handed_to_client w g.K.Kind.NUMBER c.args.number c.args.party c.in-Client.client handed)))

@@ -15,7 +15,7 @@ returns-in_err-post-clause-change g c = λ shelf number.
     let w = world_of c.args.self.now c.args.tables.now shelf (g.L.Sealer.desk c.args.sealer.now) in
     let after = g.L.Sealer.desk c.client_step.new.sealer in
     let step = subst (λ (s : Seat). ◌≡◌ {A = Stepped} (record { answer = Err c.in_err-post.field-0.0; line = c.client_step.new.line; seals = after.seals }) (client_stepped w.hall.rules g.K.Kind.NUMBER (desk_of w) c.args.client s.line c.args.entry.now)) c.requires.seated c.in_err-post.ensures.change in
-    let settled = client_refused {V = Unit {0}} w g.K.Kind.NUMBER c.args.client c.args.entry.now number c.client_step.new.line after.seals _ step in
+    let settled = client_refused {V = g.row.K.Denot} w g.K.Kind.NUMBER c.args.client c.args.entry.now number c.client_step.new.line after.seals _ step in
     search (rules, settled)
 
 pub returns-clause-change : goal.returns-clause-change
@@ -23,9 +23,9 @@ returns-clause-change g c = λ shelf number.
     let w = world_of c.args.self.now c.args.tables.now shelf (g.L.Sealer.desk c.args.sealer.now) in
     let after = g.L.Sealer.desk c.client_step.new.sealer in
     let step = subst (λ (s : Seat). ◌≡◌ {A = Stepped} (record { answer = Ok c.in_ok-post.post; line = c.client_step.new.line; seals = after.seals }) (client_stepped w.hall.rules g.K.Kind.NUMBER (desk_of w) c.args.client s.line c.args.entry.now)) c.requires.seated c.in_ok-post.ensures.change in
-    let settled = client_accepted {V = Unit {0}} w g.K.Kind.NUMBER c.args.client c.args.entry.now number c.client_step.new.line after.seals _ step in
+    let settled = client_accepted {V = g.row.K.Denot} w g.K.Kind.NUMBER c.args.client c.args.entry.now number c.client_step.new.line after.seals _ step in
     let moved = subst (λ (s : Seat). hall_of c.client_moves.new.self c.client_moves.new.tables shelf after ≡ client_moves w.hall c.args.client.number s c.client_step.new.line c.in_ok-post.post after.seals) c.requires.seated (c.client_moves.ensures shelf (desk_of w) after) in
-    ap (λ h. answers {V = Unit {0}} done h) moved ∙ settled
+    ap (λ h. answers {V = g.row.K.Denot} done h) moved ∙ settled
 
 pub returns-in_err-post-clause-grows : goal.returns-in_err-post-clause-grows
 returns-in_err-post-clause-grows g c = λ shelf.

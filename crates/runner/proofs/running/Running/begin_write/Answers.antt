@@ -1,5 +1,6 @@
 -- The client has just begun this operation.
 use Rattle.std.proofs.Common.{Some}
+use Rattle.kinds.specs.declared.bin_weight.BinWeight.{BinWeight}
 use Rattle.kinds.specs.BinWeights.{weight_word}
 use Rattle.sealers.specs.Books.{book_desk}
 use Rattle.register.specs.Worlds.{world_of}
@@ -8,5 +9,5 @@ use Rattle.runner.proofs.running.Running.begin_write.Goals as goal
 
 pub lodge-requires : goal.lodge-requires
 lodge-requires c =
-    let has = begun_slip {V = Unit {0}} (world_of c.args.self.now.hall c.args.self.now.tables no_shelf (book_desk c.args.self.now.sealer)) _ _ _ c.args.client (Some (weight_word c.args.value)) (c.in_ok-slip.ensures no_shelf) in
+    let has = begun_slip {V = BinWeight} (world_of c.args.self.now.hall c.args.self.now.tables no_shelf (book_desk c.args.self.now.sealer)) _ _ _ c.args.client (Some (weight_word c.args.value)) (c.in_ok-slip.ensures no_shelf) in
     record { tables = has.tables; its = has.its }
