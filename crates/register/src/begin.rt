@@ -58,15 +58,12 @@ impl<K: Kind> Hall<K> {
         let read = begin(client, &mut line, word, sealer)?;
         let operation = tables.log.len() as u32;
         self.moment += 1;
-        put(
-            tables.seats,
-            client.number(),
-            Seat {
-                line,
-                operation,
-                ..seat
-            },
-        );
+        let begun = Seat {
+            line,
+            operation,
+            ..seat
+        };
+        put(tables.seats, client.number(), begun);
         grow(&mut tables.post, read);
         grow(&mut tables.log, new_operation(client, word, self.moment));
         Ok(Slip {

@@ -4,9 +4,9 @@ ghost use Rattle.rules.specs.Genuine.{is_client};
 ghost use Rattle.model.specs.Halls.{has_its_tables};
 ghost use Rattle.register.specs.Worlds.{bare};
 
-use kinds::Kind;
 use crate::lengths::Lengths;
 use crate::tables::Tables;
+use kinds::Kind;
 use rules::Rules;
 use source::Source;
 use std::marker::PhantomData;

@@ -6,11 +6,11 @@ ghost use Rattle.model.specs.Issuing.{issue_called};
 ghost use Rattle.model.specs.Calls.{GenuineThen, text_if_done};
 ghost use Rattle.register.specs.Worlds.{world_of, outcome, done_or};
 
-use kinds::Kind;
 use crate::hall::Hall;
 use crate::sets::{has_too_many_marked, is_right_set};
 use crate::tables::{Tables, grow, is_full};
 use halls::HallFault;
+use kinds::Kind;
 use rules::configured;
 use sealers::Sealer;
 use wire::{EntryKind, Party, ReplicaSet};

@@ -5,11 +5,11 @@ ghost use Rattle.sealers.specs.Sealing.{Desk};
 ghost use Rattle.model.specs.Meddling.{meddle_called};
 ghost use Rattle.register.specs.Worlds.{world_of, outcome, done_or};
 
-use kinds::Kind;
 use crate::hall::Hall;
 use crate::parties::party_in;
 use crate::tables::{Tables, grow, is_full};
 use halls::HallFault;
+use kinds::Kind;
 use wire::{Entry, Party};
 
 impl<K: Kind> Hall<K> {

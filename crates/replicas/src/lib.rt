@@ -1,3 +1,4 @@
+// The step of a replica: it answers reads and writes, takes new configurations, and fetches its state.
 #![tactic(auto)]
 
 mod decision;

@@ -132,13 +132,8 @@ fn play(
     };
     let mut store = Cabinet::new();
     let Ok(sealer) = Book::open(memory.rows.as_mut_slice(), SEALS) else {
-        return unopened(
-            heap,
-            number,
-            ScriptFault::Hall(HallFault::Limit),
-            lines,
-            refusals,
-        );
+        let fault = ScriptFault::Hall(HallFault::Limit);
+        return unopened(heap, number, fault, lines, refusals);
     };
     match open(asked, &mut tables, &mut store, &sealer) {
         Ok(hall) => {

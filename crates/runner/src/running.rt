@@ -2,7 +2,14 @@
 ghost use Rattle.std.specs.Prelude.{◌≡◌, IfOk, string_bytes};
 ghost use Rattle.lists.specs.Held.{held};
 ghost use Rattle.script.specs.Reports.{printed};
-ghost use Rattle.register.specs.Worlds.{bare};
+ghost use Rattle.stores.specs.Saved.{Shelf};
+ghost use Rattle.stores.specs.Cabinets.{cabinet_shelf};
+ghost use Rattle.sealers.specs.Sealing.{Desk};
+ghost use Rattle.sealers.specs.Books.{book_desk};
+ghost use Rattle.model.specs.Issuing.{issue_called};
+ghost use Rattle.model.specs.Delivering.{deliver_called};
+ghost use Rattle.model.specs.Meddling.{meddle_called};
+ghost use Rattle.register.specs.Worlds.{bare, done_or, outcome, world_of};
 ghost use Rattle.runner.specs.Slips.{HasSlip, holds_its_slip};
 
 use crate::fault::ScriptFault;
@@ -97,11 +104,16 @@ impl Running<'_> {
         }
     }
 
-    fn issue(&mut self, set: ReplicaSet) -> Result<(), HallFault> {
+    fn issue(&mut self, set: ReplicaSet) -> Result<(), HallFault>
+        ensures change { (shelf : Shelf) → outcome {V = BinWeight} (done_or result) self.new.hall self.new.tables shelf (book_desk self.new.sealer) ≡ issue_called (world_of self.old.hall self.old.tables shelf (book_desk self.old.sealer)) set }
+        ensures store { self.new.store ≡ self.old.store }
+    {
         self.hall.issue(&mut self.tables, set, &mut self.sealer)
     }
 
-    fn deliver(&mut self, entry: u64, party: u64) -> Result<(), HallFault> {
+    fn deliver(&mut self, entry: u64, party: u64) -> Result<(), HallFault>
+        ensures { outcome {V = BinWeight} (done_or result) self.new.hall self.new.tables (cabinet_shelf self.new.store) (book_desk self.new.sealer) ≡ deliver_called (world_of self.old.hall self.old.tables (cabinet_shelf self.old.store) (book_desk self.old.sealer)) 1 entry party }
+    {
         self.hall.deliver::<Cabinet, Book>(
             &mut self.tables,
             entry,
@@ -111,7 +123,11 @@ impl Running<'_> {
         )
     }
 
-    fn meddle(&mut self, party: u64, entry: Entry) -> Result<(), HallFault> {
+    fn meddle(&mut self, party: u64, entry: Entry) -> Result<(), HallFault>
+        ensures change { (shelf : Shelf) (desk : Desk) → outcome {V = BinWeight} (done_or result) self.new.hall self.new.tables shelf desk ≡ meddle_called (world_of self.old.hall self.old.tables shelf desk) party entry }
+        ensures store { self.new.store ≡ self.old.store }
+        ensures sealer { self.new.sealer ≡ self.old.sealer }
+    {
         self.hall.meddle(&mut self.tables, party, entry)
     }
 
