@@ -6,6 +6,7 @@ use borrow.Author.Tests.{clash}
 use Rattle.std.proofs.lemmas.List.{get_or_past}
 use Rattle.kinds.specs.declared.word.Word.{Word}
 use Rattle.wire.specs.declared.entry.Entry.{Entry}
+use Rattle.wire.specs.declared.pair.Pair.{Pair}
 use Rattle.wire.specs.declared.text.Text.{Text}
 use Rattle.wire.specs.Parties.{Client}
 use Rattle.clients.specs.declared.line.Line.{Line}
@@ -15,11 +16,12 @@ use Rattle.clients.specs.Lines.{is_open}
 use Rattle.halls.specs.declared.fault.HallFault.{HallFault}
 use Rattle.halls.specs.declared.operation.Operation.{Operation}
 use Rattle.halls.specs.declared.seat.Seat.{Seat}
-use Rattle.model.specs.Halls.{Hall, World, Kind, no_operation, no_seat, seat_of, operation_of, end_of}
+use Rattle.model.specs.Tables.{Table, added}
+use Rattle.model.specs.Halls.{Hall, World, Kind, no_operation, no_seat, seat_of, operation_of, end_of, with_post}
 use Rattle.model.specs.Answers.{Answer, done, slip, pair, refused}
 use Rattle.model.specs.Beginning.{new_operation}
 use Rattle.model.specs.Calls.{Call, issue, begin_read, begin_write, deliver, call_off, collect, lodge, redeem, meddle, Step}
-use Rattle.model.specs.Delivering.{client_moves, entry_of, logged}
+use Rattle.model.specs.Delivering.{client_moves, entry_of, has_ended, logged}
 use Rattle.model.proofs.Effects.{Effect, stands, issues, starts, client_steps, replica_steps, calls_off, collects_it, lodges, redeems, meddles, BeginCall, answer_is, hall_is, effect_of}
 use Rattle.model.proofs.ClientEvents.{turned, LineChange, unchanged, stamps_now, ends_now, line_change}
 use Rattle.model.proofs.Invariants.{OwnRule, SeatRule, Holds}
@@ -121,77 +123,67 @@ set_at : (xs : List Operation) (k j : ℕ) (x : Operation) → (j ≡ k → ⊥)
 set_at xs k j x ne = get_or-set_other xs k j x no_operation ne
 
 -- what was put at place k, as far as one looks at what it keeps of the old
-set_keeps : {X : Type 0} (f : Operation → X) (xs : List Operation) (k j : ℕ) (x : Operation) → f x ≡ f (get_or xs k no_operation) → f (get_or (set xs k x) j no_operation) ≡ f (get_or xs j no_operation)
+set_keeps : {X : Type 0} (f : Operation → X) (xs : List Operation) (k j : ℕ) (x : Operation) → (j ≡ k → f x ≡ f (get_or xs k no_operation)) → f (get_or (set xs k x) j no_operation) ≡ f (get_or xs j no_operation)
 set_keeps f xs k j x e = by_place (ℕ_discrete j k) (dec_lt k (length xs))
   where
     by_place : Dec (j ≡ k) → Dec (k < length xs) → f (get_or (set xs k x) j no_operation) ≡ f (get_or xs j no_operation)
     by_place (no ne) d = ap f (set_at xs k j x ne)
-    by_place (yes same) (yes lt) = ap (λ m. f (get_or (set xs k x) m no_operation)) same ∙ ap f (get_or-set_same xs k x no_operation lt) ∙ e ∙ ap (λ m. f (get_or xs m no_operation)) (sym same)
+    by_place (yes same) (yes lt) = ap (λ m. f (get_or (set xs k x) m no_operation)) same ∙ ap f (get_or-set_same xs k x no_operation lt) ∙ e same ∙ ap (λ m. f (get_or xs m no_operation)) (sym same)
     by_place (yes same) (no past) =
         ap f (get_or_past (set xs k x) j no_operation (rw (length-set xs k x) (omega arith))) ∙ sym (ap f (get_or_past xs j no_operation (omega arith)))
 
 module _ (kind : ℕ) (sealed : List Text) (w : World) (holds : Holds kind sealed w) (client : Client) (low : 1 ≤ client.number) (high : client.number ≤ w.hall.rules.clients)
     (line : Line) (seals : ℕ → ℕ) where
-  seat : Seat
+  abbrev seat : Seat
   seat = seat_of w.hall client.number
 
-  op : Operation
+  -- the operation of the seat, before and after
+  abbrev op : Operation
   op = operation_of w.hall (seat_of w.hall client.number).operation
 
-  put_op : Operation
-  put_op = logged (operation_of w.hall (seat_of w.hall client.number).operation) (seat_of w.hall client.number).line line (w.hall.moment + 1)
+  abbrev put_op : Operation
+  put_op = logged op seat.line line (w.hall.moment + 1)
 
-  ops : List Operation
-  ops = set w.hall.log.list (seat_of w.hall client.number).operation (logged (operation_of w.hall (seat_of w.hall client.number).operation) (seat_of w.hall client.number).line line (w.hall.moment + 1))
+  -- the hall after the step, whatever stands in its post
+  abbrev after : Table Entry → Hall
+  after table = with_post (client_moves w.hall client.number seat line None seals) table
 
-  -- what is said of the log is said of its list and the moment
-  data LogTurn : Type 0 where
-    stays : SameLog w.hall (client_moves w.hall client.number (seat_of w.hall client.number) line None seals) → LogTurn
-    closes : EndedLog w.hall (client_moves w.hall client.number (seat_of w.hall client.number) line None seals) client.number (seat_of w.hall client.number).operation → LogTurn
+  -- what the step does to the log
+  data LogTurn (h' : Hall) : Type 0 where
+    stays : SameLog w.hall h' → LogTurn h'
+    closes : EndedLog w.hall h' client.number seat.operation → LogTurn h'
 
-  log_turn : LineChange (operation_of w.hall (seat_of w.hall client.number).operation) (seat_of w.hall client.number).line line → LogTurn
-  log_turn (unchanged not_ended not_stamping) = stays (record {
+  -- the operation gets no more than another pair, of the same word
+  another_pair : (table : Table Entry) (p : Pair) → has_ended seat.line line ≡ false → put_op ≡ record op { pair = p } → p.word ≡ op.pair.word → (0 < end_of op → p ≡ op.pair)
+      → SameLog w.hall (after table)
+  another_pair table p going is word over = record {
     rules_same = refl;
     marked_same = refl;
     same_length = length-set w.hall.log.list _ _;
-    same_moment = ap (λ b. cond b (w.hall.moment + 1) w.hall.moment) not_ended;
-    client = λ j. set_keeps (λ o. o.client) w.hall.log.list _ j _ (ap (λ o. o.client) same);
-    writes = λ j. set_keeps (λ o. o.writes) w.hall.log.list _ j _ (ap (λ o. o.writes) same);
-    began = λ j. set_keeps (λ o. o.began) w.hall.log.list _ j _ (ap (λ o. o.began) same);
-    ended = λ j. set_keeps (λ o. end_of o) w.hall.log.list _ j _ (ap (λ o. end_of o) same);
-    word = λ j y. set_keeps (λ o. o.pair.word) w.hall.log.list _ j _ (ap (λ o. o.pair.word) same);
-    over = λ j o. set_keeps (λ o. o.pair) w.hall.log.list _ j _ (ap (λ o. o.pair) same);
-  })
+    same_moment = ap (λ b. cond b (w.hall.moment + 1) w.hall.moment) going;
+    client = kept (λ o. o.client) (ap (λ o. o.client) is);
+    writes = kept (λ o. o.writes) (ap (λ o. o.writes) is);
+    began = kept (λ o. o.began) (ap (λ o. o.began) is);
+    ended = kept (λ o. end_of o) (ap (λ o. end_of o) is);
+    word = λ j y. kept (λ o. o.pair.word) (ap (λ o. o.pair.word) is ∙ word) j;
+    over = λ j o. set_keeps (λ x. x.pair) w.hall.log.list seat.operation j put_op (λ e. ap (λ x. x.pair) is ∙ over (subst (λ m. 0 < end_of (operation_of w.hall m)) e o));
+  }
     where
-      same : logged (operation_of w.hall (seat_of w.hall client.number).operation) (seat_of w.hall client.number).line line (w.hall.moment + 1) ≡ operation_of w.hall (seat_of w.hall client.number).operation
-      same = rw (not_ended, not_stamping)
-  log_turn (stamps_now not_ended stamping reading word) = stays (record {
-    rules_same = refl;
-    marked_same = refl;
-    same_length = length-set w.hall.log.list _ _;
-    same_moment = ap (λ b. cond b (w.hall.moment + 1) w.hall.moment) not_ended;
-    client = λ j. set_keeps (λ o. o.client) w.hall.log.list _ j _ (ap (λ o. o.client) same);
-    writes = λ j. set_keeps (λ o. o.writes) w.hall.log.list _ j _ (ap (λ o. o.writes) same);
-    began = λ j. set_keeps (λ o. o.began) w.hall.log.list _ j _ (ap (λ o. o.began) same);
-    ended = λ j. set_keeps (λ o. end_of o) w.hall.log.list _ j _ (ap (λ o. end_of o) same);
-    word = λ j y. set_keeps (λ o. o.pair.word) w.hall.log.list _ j _ (ap (λ o. o.pair.word) same ∙ word);
-    over = λ j o. ap (λ z. z.pair) (set_at w.hall.log.list (seat_of w.hall client.number).operation j _ (λ e. not_it j e o));
-  })
-    where
-      same : logged (operation_of w.hall (seat_of w.hall client.number).operation) (seat_of w.hall client.number).line line (w.hall.moment + 1)
-          ≡ record (operation_of w.hall (seat_of w.hall client.number).operation) { pair = line.highest }
-      same = rw (not_ended, stamping)
+      kept : {X : Type 0} (f : Operation → X) → f put_op ≡ f op → (j : ℕ) → f (get_or (set w.hall.log.list seat.operation put_op) j no_operation) ≡ f (operation_of w.hall j)
+      kept f same j = set_keeps f w.hall.log.list seat.operation j put_op (λ e. same)
 
-      not_it : (j : ℕ) → j ≡ (seat_of w.hall client.number).operation → 0 < end_of (operation_of w.hall j) → ⊥
-      not_it j e o = omega (arith, subst (λ m. 0 < end_of (operation_of w.hall m)) e o, ((holds.seats client.number low high).open_reading reading).unended)
-  log_turn (ends_now ended over busy word) = closes (record {
+  log_turn : (table : Table Entry) → LineChange op seat.line line → LogTurn (after table)
+  log_turn table (unchanged going not_stamping) = stays (another_pair table op.pair going (rw (going, not_stamping)) refl (λ o. refl))
+  log_turn table (stamps_now going stamping reading word) = stays (another_pair table line.highest going (rw (going, stamping)) word
+      (λ o. absurd (omega (arith, o, ((holds.seats client.number low high).open_reading reading).unended))))
+  log_turn table (ends_now ended over busy word) = closes (record {
     rules_same = refl;
     marked_same = refl;
     same_length = length-set w.hall.log.list _ _;
     next_moment = ap (λ b. cond b (w.hall.moment + 1) w.hall.moment) ended;
     logged = own_op.logged;
-    others = λ j ne. set_at w.hall.log.list (seat_of w.hall client.number).operation j _ ne;
-    unended = unended (seat_of w.hall client.number).line.stage refl busy;
+    others = λ j ne. set_at w.hall.log.list seat.operation j _ ne;
+    unended = unended seat.line.stage refl busy;
     now = ap (λ o. end_of o) put;
     by = own_op.client;
     client = ap (λ o. o.client) put;
@@ -202,64 +194,29 @@ module _ (kind : ℕ) (sealed : List Text) (w : World) (holds : Holds kind seale
     seat = ap (λ s. s.operation) there;
   })
     where
-      mine : SeatRule kind w client.number (seat_of w.hall client.number)
+      mine : SeatRule kind w client.number seat
       mine = holds.seats client.number low high
 
-      own_op : OwnRule w client.number (seat_of w.hall client.number)
+      own_op : OwnRule w client.number seat
       own_op = mine.own (opens_busy _ busy)
 
-      unended : (s : Stage) → (seat_of w.hall client.number).line.stage ≡ s → is_open s ≡ true → end_of (operation_of w.hall (seat_of w.hall client.number).operation) ≡ 0
+      unended : (s : Stage) → seat.line.stage ≡ s → is_open s ≡ true → end_of op ≡ 0
       unended Idle is b = absurd (clash b)
       unended Reading is b = (mine.open_reading is).unended
       unended Writing is b = (mine.open_writing is).unended
       unended WritingBack is b = (mine.open_back is).unended
       unended Over is b = absurd (clash b)
 
-      there : get_or (set w.hall.seats (client.number - 1) (record (seat_of w.hall client.number) { line = line })) (client.number - 1) no_seat
-          ≡ record (seat_of w.hall client.number) { line = line }
+      there : get_or (set w.hall.seats (client.number - 1) (record seat { line = line })) (client.number - 1) no_seat ≡ record seat { line = line }
       there = seat_same w.hall client.number _ holds.sized low high
 
-      put : get_or (set w.hall.log.list (seat_of w.hall client.number).operation (logged (operation_of w.hall (seat_of w.hall client.number).operation) (seat_of w.hall client.number).line line (w.hall.moment + 1))) (seat_of w.hall client.number).operation no_operation
-          ≡ record (operation_of w.hall (seat_of w.hall client.number).operation) { ended = Some (w.hall.moment + 1); pair = line.highest }
-      put = get_or-set_same w.hall.log.list (seat_of w.hall client.number).operation _ no_operation own_op.logged ∙ rw ended
+      put : get_or (set w.hall.log.list seat.operation put_op) seat.operation no_operation ≡ record op { ended = Some (w.hall.moment + 1); pair = line.highest }
+      put = get_or-set_same w.hall.log.list seat.operation _ no_operation own_op.logged ∙ rw ended
 
   -- whatever is posted
-  data LogTurned (post : Option Entry) : Type 0 where
-    stays_so : SameLog w.hall (client_moves w.hall client.number (seat_of w.hall client.number) line post seals) → LogTurned post
-    closes_so : EndedLog w.hall (client_moves w.hall client.number (seat_of w.hall client.number) line post seals) client.number (seat_of w.hall client.number).operation → LogTurned post
-
-  log_turned : (post : Option Entry) → LogTurn → LogTurned post
-  log_turned None (stays s) = stays_so s
-  log_turned None (closes e) = closes_so e
-  log_turned (Some x) (stays s) = stays_so (record {
-    rules_same = s.rules_same;
-    marked_same = s.marked_same;
-    same_length = s.same_length;
-    same_moment = s.same_moment;
-    client = s.client;
-    writes = s.writes;
-    began = s.began;
-    ended = s.ended;
-    word = s.word;
-    over = s.over;
-  })
-  log_turned (Some x) (closes e) = closes_so (record {
-    rules_same = e.rules_same;
-    marked_same = e.marked_same;
-    same_length = e.same_length;
-    next_moment = e.next_moment;
-    logged = e.logged;
-    others = e.others;
-    unended = e.unended;
-    now = e.now;
-    by = e.by;
-    client = e.client;
-    writes = e.writes;
-    began = e.began;
-    word = e.word;
-    over = e.over;
-    seat = e.seat;
-  })
+  log_turned : (post : Option Entry) → LineChange op seat.line line → LogTurn (client_moves w.hall client.number seat line post seals)
+  log_turned None change = log_turn w.hall.post change
+  log_turned (Some x) change = log_turn (added w.hall.post x) change
 
 -- nothing that is refused begins
 pub refused_begins_none : {V : Type 0} (call : Call V) (f : HallFault) → begins_slip call (refused f) ≡ false
@@ -293,13 +250,12 @@ module _ {V : Type 0} (kind : Kind V) (sealed : List Text) (w : World) (holds : 
       }))
   event_by (client_steps number client is seated room fits line post seals step answer e) =
       by_turn (log_turned kind.number sealed w holds client seated.low seated.high line seals post
-      (log_turn kind.number sealed w holds client seated.low seated.high line seals
       (line_change client (seat_of w.hall client.number) (holds.seats client.number seated.low seated.high)
-      (turned w kind.number client (entry_of w.hall number) line post seals step))))
+      (turned w kind.number client (entry_of w.hall number) line post seals step)))
     where
-      by_turn : LogTurned kind.number sealed w holds client seated.low seated.high line seals post → Event kind w.hall h' call a
-      by_turn (stays_so same) = same_event _ is refl e same
-      by_turn (closes_so closed) = ends client.number (seat_of w.hall client.number).operation seated.low seated.high (ap (λ c. begins_slip c a) is)
+      by_turn : LogTurn kind.number sealed w holds client seated.low seated.high line seals (client_moves w.hall client.number (seat_of w.hall client.number) line post seals) → Event kind w.hall h' call a
+      by_turn (stays same) = same_event _ is refl e same
+      by_turn (closes closed) = ends client.number (seat_of w.hall client.number).operation seated.low seated.high (ap (λ c. begins_slip c a) is)
           (subst (λ h. EndedLog w.hall h client.number (seat_of w.hall client.number).operation) e closed)
   event_by (replica_steps number party r is inside room fits place saves None step answer e) = same_event _ is refl e (kept_log _ _ refl refl refl refl)
   event_by (replica_steps number party r is inside room fits place saves (Some x) step answer e) = same_event _ is refl e (kept_log _ _ refl refl refl refl)
