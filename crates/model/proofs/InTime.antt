@@ -1,11 +1,11 @@
 -- The moments of the log keep the order of begins and ends.
 -- Each begin and each end takes the moment after that of the world it meets.
 use Rattle.std.proofs.Common.{◌≡◌, ℕ, ◌+◌, ◌<◌, sym, ◌∙◌, arith}
-use Rattle.model.specs.Halls.{World, Kind, operation_of, end_of}
+use Rattle.model.specs.Halls.{World, Kind}
 use Rattle.model.specs.Moments.{Event, begins, ends, MomentsInOrder}
 use Rattle.model.specs.Runs.{Lawful, Opened, Run, Unforged}
 use Rattle.model.proofs.Growing.{Grows}
-use Rattle.model.proofs.Trace.{grows, started, told, EndAt, ended_at}
+use Rattle.model.proofs.Trace.{grows, started, told, end_seen}
 
 module _ {V : Type 0} (kind : Kind V) (v : V) (start : World) (lawful : Lawful kind) (opened : Opened kind v start.hall) (run : Run kind start) (unforged : Unforged run) where
   -- the moment of what happened at position p
@@ -22,20 +22,9 @@ module _ {V : Type 0} (kind : Kind V) (v : V) (start : World) (lawful : Lawful k
         moment = sym is ∙ (told kind v start lawful opened run unforged run.calls p c k s.word s.start_of s.start_of.within (omega arith)).began;
         next_moment = s.start_of.log.next_moment;
       }
-  timed p m (ends {o} {v = u} e is) = record {
-    within = e.within;
-    moment = sym is ∙ g.ended e.place then_over ∙ at.log.now;
-    next_moment = at.log.next_moment;
-  }
-    where
-      at : EndAt kind v start lawful opened run unforged p e.client e.place u
-      at = ended_at kind v start lawful opened run unforged o p u e
-
-      then_over : 0 < end_of (operation_of (run.world (p + 1)).hall e.place)
-      then_over = omega (arith, at.log.now)
-
-      g : Grows (run.world (p + 1)).hall (run.world run.calls).hall
-      g = grows kind v start lawful opened run unforged (p + 1) run.calls (omega (arith, e.within)) (omega arith)
+  timed p m (ends {o} {v = u} e is) =
+      let t = end_seen kind v start lawful opened run unforged run.calls o p u e e.within (omega arith) in
+      record { within = e.within; moment = sym is ∙ t.moment ∙ t.next_moment; next_moment = t.next_moment }
 
   pub moments_in_order : MomentsInOrder run
   moments_in_order p q m n a b lt =

@@ -19,7 +19,7 @@ use Rattle.model.proofs.Images.{split_from, map_member, comes_from, below, IsBel
 use Rattle.model.proofs.Growing.{Grows, ended_logged}
 use Rattle.model.proofs.Invariants.{stamp_number, StampedWrite, KnownPair, the_opening, a_write as of_a_write, OverBefore, Holds}
 use Rattle.model.proofs.RunKeeps.{sealed_at, holds_at}
-use Rattle.model.proofs.Trace.{grows, StartOf, started, operation_started, Told, told, found_start, found_end, opening_stays, EndAt, end_client, ended_valued, ended_told, ended_at}
+use Rattle.model.proofs.Trace.{grows, StartOf, started, operation_started, Told, told, found_start, found_end, opening_stays, end_client, ended_valued, ended_told, end_seen}
 use Rattle.wire.specs.declared.text.Text.{Text}
 use Rattle.model.proofs.Ways.{both, some_same, not_some}
 
@@ -186,22 +186,10 @@ module _ {V : Type 0} (kind : Kind V) (v : V) (start : World) (lawful : Lawful k
 
   last_end : (o p : ℕ) (u : V) (e : Ended run o p u) → LastEnd o p u e.place
   unfolding last
-  last_end o p u e = record {
-    begun = (place_in o e.client e.place e.operation).1;
-    logged = (place_in o e.client e.place e.operation).0;
-    over = omega (arith, g.ended e.place then_over, then_over);
-    moment = g.ended e.place then_over ∙ at.log.now ∙ sym at.log.next_moment;
-    value = ap (λ q. kind.value q.word) (g.pair e.place then_over) ∙ at.value;
-  }
-    where
-      at : EndAt kind v start lawful opened run unforged p e.client e.place u
-      at = ended_at kind v start lawful opened run unforged o p u e
-
-      then_over : 0 < end_of (operation_of (run.world (p + 1)).hall e.place)
-      then_over = omega (arith, at.log.now)
-
-      g : Grows (run.world (p + 1)).hall (run.world run.calls).hall
-      g = grows kind v start lawful opened run unforged (p + 1) run.calls (omega (arith, e.within)) (omega arith)
+  last_end o p u e =
+      let there = place_in o e.client e.place e.operation in
+      let t = end_seen kind v start lawful opened run unforged run.calls o p u e e.within (omega arith) in
+      record { begun = there.1; logged = there.0; over = t.over; moment = t.moment; value = t.value }
 
   -- what is ended in the last log has ended in the run
   finished : (k : ℕ) → k < length last.log.list → 0 < end_of (operation_of last k) → Finished run (where_begun k)

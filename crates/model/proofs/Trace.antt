@@ -387,3 +387,27 @@ module _ {V : Type 0} (kind : Kind V) (v : V) (start : World) (lawful : Lawful k
         log = subst (λ m. EndedLog (hall_at p) (hall_at (p + 1)) m e.place) (end_client p o e.client e.place e.within e.operation f) f.log;
         value = c.value;
       }
+
+  -- what has ended with the call at p, seen in a later world
+  pub record EndSeen (i p k : ℕ) (u : V) : Type 0 where
+    pub over : 0 < end_of (operation_of (hall_at i) k)
+    pub moment : end_of (operation_of (hall_at i) k) ≡ (hall_at (p + 1)).moment
+    pub next_moment : (hall_at (p + 1)).moment ≡ (hall_at p).moment + 1
+    pub value : kind.value (operation_of (hall_at i) k).pair.word ≡ Some u
+
+  pub end_seen : (i o p : ℕ) (u : V) (e : Ended run o p u) → p < i → i ≤ run.calls → EndSeen i p e.place u
+  end_seen i o p u e lt le = record {
+    over = omega (arith, then_over, g.ended e.place then_over);
+    moment = g.ended e.place then_over ∙ at.log.now ∙ sym at.log.next_moment;
+    next_moment = at.log.next_moment;
+    value = ap (λ q. kind.value q.word) (g.pair e.place then_over) ∙ at.value;
+  }
+    where
+      at : EndAt p e.client e.place u
+      at = ended_at o p u e
+
+      then_over : 0 < end_of (operation_of (hall_at (p + 1)) e.place)
+      then_over = omega (arith, at.log.now)
+
+      g : Grows (hall_at (p + 1)) (hall_at i)
+      g = grows (p + 1) i (omega arith) le
