@@ -1,6 +1,6 @@
 -- What a replica posts: a liar's entries ask for nothing, an honest replica's are justified by its card.
 -- The world is that before the entry is posted.
-use Rattle.std.proofs.Common.{◌≡◌, ℕ, ◌+◌, ◌<◌, ◌≤◌, Bool, true, false, List, ◌∷◌, Some, sym, refl, ap, ◌∙◌, subst, arith}
+use Rattle.std.proofs.Common.{◌≡◌, ℕ, ◌+◌, ◌<◌, ◌≤◌, Bool, true, false, List, ◌∷◌, Some, sym, refl, ap, ◌∙◌, subst, subst₂, arith}
 use mathlib.Core.Path.{subst₃}
 use native.Mathlib.Decide.{ℕ_discrete}
 use borrow.Author.Tests.{clash}
@@ -20,7 +20,7 @@ use Rattle.model.specs.Halls.{World}
 use Rattle.model.proofs.Cards.{card_later}
 use Rattle.model.proofs.Frames.{history_added, later_card, later_genuine, QuietReplica, QuietClient}
 use Rattle.model.proofs.Invariants.{views, history, stamp_number, issued_as, CardRule, AnswerRule, Holds, Later}
-use Rattle.model.proofs.Posts.{posted_in, later_posted, post_keeps}
+use Rattle.model.proofs.Posts.{posted_in, later_posted, no_answer, post_keeps}
 use Rattle.model.proofs.Ways.{some_same}
 
 -- what an honest replica owes for an entry that it posts
@@ -84,31 +84,63 @@ pub owed_unruled : (kind : ℕ) (w : World) (q : ℕ) (x : Entry) → Unruled x.
 unfolding later_posted
 owed_unruled kind w q x unruled = record {
   justified = justified_unruled unruled;
-  answer = record { pair = λ s honest. absurd (unruled.no_pair s.kind); ack = λ s honest. absurd (unruled.no_ack s.kind); genuine = λ s honest. absurd (unruled.no_pair s.kind) };
+  answer = no_answer kind (posted_in w x) x unruled.no_pair unruled.no_ack;
   card = λ card rule kept. later_card kind q card (later_posted w x)
       (next (record { not_pair = λ e k. unruled.no_pair k; not_ack = λ e k. unruled.no_ack k; not_stock = λ e k. unruled.no_stock k }) done) rule;
 }
+
+-- the rule of a card once an entry of its replica is posted, which serves nothing above its stamp and is no stock of its present epoch
+card_posted : {kind : ℕ} {w : World} {q : ℕ} {card : Card} (x : Entry) → CardRule kind w q card → w.hall.place q ≡ Some card
+    → ((e t : ℕ) → Serves q e t x (history w.hall) → t ≤ stamp_number card.pair)
+    → ((r a s : ℕ) → StockEntry q r a s x → a < card.epoch)
+    → (other : Card) → CardRule kind w q other → w.hall.place q ≡ Some other → CardRule kind (posted_in w x) q other
+card_posted {kind} {w} {q} {card} x rule kept serves stocks other r k =
+    subst (λ z. CardRule kind (posted_in w x) q z) (some_same (sym kept ∙ k))
+    (card_later (later_posted w x)
+    (λ e t s. all_served (subst (λ h. Served h q e t) (history_added w.hall x) s))
+    (λ r a s st. all_stocked (subst (λ h. Stocked h q r a s) (history_added w.hall x) st)) rule)
+  where
+    all_served : {e t : ℕ} → Served (x ∷ history w.hall) q e t → t ≤ stamp_number card.pair
+    all_served (here s) = serves _ _ s
+    all_served (there s) = rule.served s
+
+    all_stocked : {r a s : ℕ} → Stocked (x ∷ history w.hall) q r a s → a < card.epoch
+    all_stocked (here s) = stocks _ _ _ s
+    all_stocked (there s) = rule.stocked s
+
+-- of a ready member that is asked in its own epoch
+module _ {kind : ℕ} {w : World} {q : ℕ} {card : Card} (rule : CardRule kind w q card) (asked : Entry) (epoch : asked.epoch ≡ card.epoch)
+    (inside : member card.set.0 q ≡ true) (ready : card.ready ≡ true) where
+  evident : Evidence (views w.hall) (history w.hall) q asked.epoch (stamp_number card.pair)
+  evident = subst (λ e. Evidence (views w.hall) (history w.hall) q e (stamp_number card.pair)) (sym epoch) (rule.ready ready)
+
+  unstocked : {r a s : ℕ} → Stocked (history w.hall) q r a s → a < asked.epoch
+  unstocked s = omega (arith, rule.stocked s)
+
+  answers_in : (n e : ℕ) → 100 + q ≡ 100 + n → asked.epoch ≡ e → member (issued_as w.hall e).set.0 n ≡ true
+  answers_in n e by is = subst₂ (λ d m. member (issued_as w.hall d).set.0 m ≡ true) (sym epoch ∙ is) same (ap (λ m. member m q) (sym rule.set) ∙ inside)
+    where
+      same : q ≡ n
+      same = omega arith
 
 -- PAIR in answer to a READ of its epoch that stands in the post: it is a ready member there
 pub owed_pair : (kind : ℕ) (w : World) (q : ℕ) (asked : Entry) (card : Card) → CardRule kind w q card → w.hall.place q ≡ Some card
     → asked.epoch ≡ card.epoch → member card.set.0 q ≡ true → card.ready ≡ true
     → Posted (ReadEntry asked.sender asked.round asked.epoch) (history w.hall)
     → Owed kind w q (pair_entry (100 + q) asked card.pair)
-unfolding later_posted
 owed_pair kind w q asked card rule kept epoch inside ready read = record {
   justified = justified_pair shape (λ honest. record {
-    evidence = subst (λ e. Evidence (views w.hall) (history w.hall) q e (stamp_number card.pair)) (sym epoch) (rule.ready ready);
-    unstocked = λ s. below (rule.stocked s);
+    evidence = evident rule asked epoch inside ready;
+    unstocked = unstocked rule asked epoch inside ready;
     highest = rule.served;
     asked = read;
   });
   answer = record {
-    pair = λ {q = n} s honest. subst (λ e. member (issued_as w.hall e).set.0 n ≡ true) (sym epoch ∙ s.epoch) (who n s.sender (ap (λ m. member m q) (sym rule.set) ∙ inside));
-    ack = λ s honest. absurd (wrong s.kind);
+    pair = λ {q = n} {e} {s = t} s honest. answers_in rule asked epoch inside ready n e s.sender s.epoch;
+    ack = λ s honest. absurd (omega (arith, s.kind));
     genuine = λ s honest. later_genuine kind (later_posted w x) card.pair rule.genuine;
   };
-  card = λ other r k. subst (λ z. CardRule kind (posted_in w x) q z) (some_same (sym kept ∙ k))
-      (card_later (later_posted w x) serves stocks rule);
+  card = card_posted x rule kept serves (λ r a t s. absurd (omega (arith, s.kind)));
 }
   where
     x : Entry
@@ -117,38 +149,9 @@ owed_pair kind w q asked card rule kept epoch inside ready read = record {
     shape : PairEntry q asked.epoch (stamp_number card.pair) x
     shape = record { sender = refl; kind = refl; epoch = refl; stamp = refl }
 
-    below : {a : ℕ} → a < card.epoch → a < asked.epoch
-    below lt = omega arith
-
-    wrong : ◌≡◌ {A = ℕ} 4 5 → ⊥
-    wrong e = omega arith
-
-    who : (n : ℕ) → 100 + q ≡ 100 + n → member (issued_as w.hall card.epoch).set.0 q ≡ true → member (issued_as w.hall card.epoch).set.0 n ≡ true
-    who n e m = subst (λ z. member (issued_as w.hall card.epoch).set.0 z ≡ true) same m
-      where
-        same : q ≡ n
-        same = omega arith
-
-    serves_here : {e t : ℕ} {h : List Entry} → Serves q e t x h → t ≤ stamp_number card.pair
-    serves_here (by_pair s) = omega (arith, s.stamp)
-    serves_here (by_ack s m) = absurd (wrong s.kind)
-
-    in_new : {e t : ℕ} {h : List Entry} → ((e t : ℕ) → Served h q e t → t ≤ stamp_number card.pair) → Served (x ∷ h) q e t → t ≤ stamp_number card.pair
-    in_new old (here s) = serves_here s
-    in_new old (there s) = old _ _ s
-
-    serves : (e t : ℕ) → Served (history (posted_in w x).hall) q e t → t ≤ stamp_number card.pair
-    serves e t s = in_new (λ e t. rule.served) (subst (λ h. Served h q e t) (history_added w.hall x) s)
-
-    not_stock : {r a s : ℕ} {h : List Entry} → ((r a s : ℕ) → Stocked h q r a s → a < card.epoch) → Stocked (x ∷ h) q r a s → a < card.epoch
-    not_stock old (here s) = absurd (other s.kind)
-      where
-        other : ◌≡◌ {A = ℕ} 4 6 → ⊥
-        other e = omega arith
-    not_stock old (there s) = old _ _ _ s
-
-    stocks : (r a s : ℕ) → Stocked (history (posted_in w x).hall) q r a s → a < card.epoch
-    stocks r a s st = not_stock (λ r a s. rule.stocked) (subst (λ h. Stocked h q r a s) (history_added w.hall x) st)
+    serves : (e t : ℕ) → Serves q e t x (history w.hall) → t ≤ stamp_number card.pair
+    serves e t (by_pair s) = omega (arith, s.stamp)
+    serves e t (by_ack s m) = absurd (omega (arith, s.kind))
 
 -- ACK in answer to a WRITE of its epoch that stands in the post, whose stamp is not above the card's
 pub owed_ack : (kind : ℕ) (sealed : List Text) (w : World) (q : ℕ) (asked : Entry) (card : Card) → Holds kind sealed w → CardRule kind w q card → w.hall.place q ≡ Some card
@@ -156,22 +159,20 @@ pub owed_ack : (kind : ℕ) (sealed : List Text) (w : World) (q : ℕ) (asked : 
     → Posted (WriteEntry asked.sender asked.round asked.epoch (stamp_of asked)) (history w.hall)
     → stamp_of asked ≤ stamp_number card.pair
     → Owed kind w q (ack_entry (100 + q) asked)
-unfolding later_posted
 owed_ack kind sealed w q asked card holds rule kept epoch inside ready written low = record {
   justified = justified_ack shape (λ honest. record {
     stamp = stamp_number card.pair;
-    evidence = subst (λ e. Evidence (views w.hall) (history w.hall) q e (stamp_number card.pair)) (sym epoch) (rule.ready ready);
-    unstocked = λ s. below (rule.stocked s);
+    evidence = evident rule asked epoch inside ready;
+    unstocked = unstocked rule asked epoch inside ready;
     written = stamp_of asked;
     asked = written;
   });
   answer = record {
-    pair = λ s honest. absurd (wrong s.kind);
-    ack = λ {q = n} s honest. subst (λ e. member (issued_as w.hall e).set.0 n ≡ true) (sym epoch ∙ s.epoch) (who n s.sender (ap (λ m. member m q) (sym rule.set) ∙ inside));
-    genuine = λ s honest. absurd (wrong s.kind);
+    pair = λ s honest. absurd (omega (arith, s.kind));
+    ack = λ {q = n} {e} {c} {r} s honest. answers_in rule asked epoch inside ready n e s.sender s.epoch;
+    genuine = λ s honest. absurd (omega (arith, s.kind));
   };
-  card = λ other r k. subst (λ z. CardRule kind (posted_in w x) q z) (some_same (sym kept ∙ k))
-      (card_later (later_posted w x) serves stocks rule);
+  card = card_posted x rule kept serves (λ r a t s. absurd (omega (arith, s.kind)));
 }
   where
     x : Entry
@@ -180,55 +181,24 @@ owed_ack kind sealed w q asked card holds rule kept epoch inside ready written l
     shape : AckEntry q asked.epoch asked.sender asked.round x
     shape = record { sender = refl; kind = refl; addressee = refl; round = refl; epoch = refl }
 
-    below : {a : ℕ} → a < card.epoch → a < asked.epoch
-    below lt = omega arith
-
-    wrong : ◌≡◌ {A = ℕ} 5 4 → ⊥
-    wrong e = omega arith
-
-    who : (n : ℕ) → 100 + q ≡ 100 + n → member (issued_as w.hall card.epoch).set.0 q ≡ true → member (issued_as w.hall card.epoch).set.0 n ≡ true
-    who n e m = subst (λ z. member (issued_as w.hall card.epoch).set.0 z ≡ true) same m
-      where
-        same : q ≡ n
-        same = omega arith
-
     same_stamp : {e c r t : ℕ} → AckEntry q e c r x → Posted (WriteEntry c r e t) (history w.hall) → t ≤ stamp_number card.pair
     same_stamp {e} {c} {r} {t} s m = omega (arith, (one_write holds.good written found).stamps)
       where
         found : Posted (WriteEntry asked.sender asked.round asked.epoch t) (history w.hall)
         found = subst₃ (λ c r e. Posted (WriteEntry c r e t) (history w.hall)) (sym s.addressee) (sym s.round) (sym s.epoch) m
 
-    serves_here : {e t : ℕ} → Serves q e t x (history w.hall) → t ≤ stamp_number card.pair
-    serves_here (by_pair s) = absurd (wrong s.kind)
-    serves_here (by_ack s m) = same_stamp s m
-
-    in_new : {e t : ℕ} → Served (x ∷ history w.hall) q e t → t ≤ stamp_number card.pair
-    in_new (here s) = serves_here s
-    in_new (there s) = rule.served s
-
-    serves : (e t : ℕ) → Served (history (posted_in w x).hall) q e t → t ≤ stamp_number card.pair
-    serves e t s = in_new (subst (λ h. Served h q e t) (history_added w.hall x) s)
-
-    not_stock : {r a s : ℕ} → Stocked (x ∷ history w.hall) q r a s → a < card.epoch
-    not_stock (here s) = absurd (other s.kind)
-      where
-        other : ◌≡◌ {A = ℕ} 5 6 → ⊥
-        other e = omega arith
-    not_stock (there s) = rule.stocked s
-
-    stocks : (r a s : ℕ) → Stocked (history (posted_in w x).hall) q r a s → a < card.epoch
-    stocks r a s st = not_stock (subst (λ h. Stocked h q r a s) (history_added w.hall x) st)
+    serves : (e t : ℕ) → Serves q e t x (history w.hall) → t ≤ stamp_number card.pair
+    serves e t (by_pair s) = absurd (omega (arith, s.kind))
+    serves e t (by_ack s m) = same_stamp s m
 
 -- STOCK of an epoch that it was a member of and has left
 pub owed_stock : (kind : ℕ) (w : World) (q r : ℕ) (asked : Entry) (card : Card) → CardRule kind w q card → w.hall.place q ≡ Some card
     → asked.sender ≡ 100 + r → asked.epoch < card.epoch → member (issued_as w.hall asked.epoch).set.0 q ≡ true
     → Owed kind w q (stock_entry (100 + q) asked card.pair)
-unfolding later_posted
 owed_stock kind w q r asked card rule kept from left inside = record {
   justified = justified_stock shape (λ honest. record { evidence = rule.left asked.epoch left inside; highest = rule.served });
-  answer = record { pair = λ s honest. absurd (not_pair s.kind); ack = λ s honest. absurd (not_ack s.kind); genuine = λ s honest. absurd (not_pair s.kind) };
-  card = λ other old k. subst (λ z. CardRule kind (posted_in w x) q z) (some_same (sym kept ∙ k))
-      (card_later (later_posted w x) serves stocks rule);
+  answer = no_answer kind (posted_in w x) x (λ e. omega arith) (λ e. omega arith);
+  card = card_posted x rule kept serves (λ o a t s. omega (arith, s.epoch));
 }
   where
     x : Entry
@@ -237,26 +207,6 @@ owed_stock kind w q r asked card rule kept from left inside = record {
     shape : StockEntry q r asked.epoch (stamp_number card.pair) x
     shape = record { sender = refl; kind = refl; addressee = from; epoch = refl; stamp = refl }
 
-    not_pair : ◌≡◌ {A = ℕ} 6 4 → ⊥
-    not_pair e = omega arith
-
-    not_ack : ◌≡◌ {A = ℕ} 6 5 → ⊥
-    not_ack e = omega arith
-
-    serves_here : {e t : ℕ} → Serves q e t x (history w.hall) → t ≤ stamp_number card.pair
-    serves_here (by_pair s) = absurd (not_pair s.kind)
-    serves_here (by_ack s m) = absurd (not_ack s.kind)
-
-    in_new : {e t : ℕ} → Served (x ∷ history w.hall) q e t → t ≤ stamp_number card.pair
-    in_new (here s) = serves_here s
-    in_new (there s) = rule.served s
-
-    serves : (e t : ℕ) → Served (history (posted_in w x).hall) q e t → t ≤ stamp_number card.pair
-    serves e t s = in_new (subst (λ h. Served h q e t) (history_added w.hall x) s)
-
-    in_stock : {o a s : ℕ} → Stocked (x ∷ history w.hall) q o a s → a < card.epoch
-    in_stock (here s) = omega (arith, s.epoch)
-    in_stock (there s) = rule.stocked s
-
-    stocks : (o a s : ℕ) → Stocked (history (posted_in w x).hall) q o a s → a < card.epoch
-    stocks o a s st = in_stock (subst (λ h. Stocked h q o a s) (history_added w.hall x) st)
+    serves : (e t : ℕ) → Serves q e t x (history w.hall) → t ≤ stamp_number card.pair
+    serves e t (by_pair s) = absurd (omega (arith, s.kind))
+    serves e t (by_ack s m) = absurd (omega (arith, s.kind))
