@@ -25,7 +25,7 @@ use Rattle.model.specs.Beginning.{new_operation, word_or_none}
 use Rattle.model.proofs.Frames.{history_added, later_card, later_configuration, later_seat, later_text}
 use Rattle.model.proofs.Invariants.{views, history, stamp_number, StampedWrite, OverBefore, SettledSomewhere, OperationRule, ReadingRule, SeatRule, LogRule, ends, Holds, Later}
 use Rattle.model.proofs.Stages.{seat_reading}
-use Rattle.model.proofs.Posts.{before_end, at_end, places_added, answers_posted, no_answer, operation_later, seats_begin}
+use Rattle.model.proofs.Posts.{before_end, at_end, roll_stays, post_added, places_added, answers_posted, no_answer, operation_later, seats_begin}
 use Rattle.model.proofs.SlipKeeps.{seat_same, seat_other}
 
 -- one more operation that has not ended
@@ -99,25 +99,21 @@ module _ (kind : ℕ) (sealed : List Text) (w : World) (holds : Holds kind seale
       by_place (none_there gt) = absurd (omega (arith, s.stamped, ap (λ z. z.pair.stamp.count) (past_op k gt)))
 
   later_begun : Later w (begin_world w client word open_place given)
-  unfolding history read
+  unfolding post_added read
   later_begun = record {
-    rules = refl;
-    marked = refl;
-    issued = omega arith;
-    roll = λ e lt. refl;
-    posted = read ∷ [];
-    past = history_added w.hall read;
-    entries = simp length-append (omega arith);
-    same_entries = λ n lt. before_end w.hall.post.list read no_entry n lt;
+    rolls = roll_stays w.hall;
+    posts = post_added w.hall read;
+    logs = record {
+      moment = omega arith;
+      logged = simp length-append (omega arith);
+      client = λ k lt. ap (λ z. z.client) (old_op k lt);
+      writes = λ k lt. ap (λ z. z.writes) (old_op k lt);
+      began = λ k lt. ap (λ z. z.began) (old_op k lt);
+      stamp = λ k s. ap (λ z. z.pair) (old_op k s.logged);
+      ended = λ k o. old_op k (was_old k o);
+      ending = λ k z o. absurd (omega (arith, z, o, ap (λ p. end_of p) (old_op k (ended_old k o))));
+    };
     genuine = λ t s g. g;
-    moment = omega arith;
-    logged = simp length-append (omega arith);
-    client = λ k lt. ap (λ z. z.client) (old_op k lt);
-    writes = λ k lt. ap (λ z. z.writes) (old_op k lt);
-    began = λ k lt. ap (λ z. z.began) (old_op k lt);
-    stamp = λ k s. ap (λ z. z.pair) (old_op k s.logged);
-    ended = λ k o. old_op k (was_old k o);
-    ending = λ k z o. absurd (omega (arith, z, o, ap (λ p. end_of p) (old_op k (ended_old k o))));
   }
     where
       was_old : (k : ℕ) → 0 < end_of (operation_of w.hall k) → k < length w.hall.log.list

@@ -64,8 +64,12 @@ later_views l = record {
   sets = λ e lt. ap (λ c. c.set.0) (l.roll e lt);
 }
 
+pub later_history : {w w' : World} (l : Later w w') → history w'.hall ≡ l.posted ++ history w.hall
+unfolding history
+later_history l = l.past
+
 pub later_past : {w w' : World} → Later w w' → Beneath (history w.hall) (history w'.hall)
-later_past {w} l = subst (Beneath (history w.hall)) (sym l.past) (beneath_append l.posted (history w.hall))
+later_past {w} l = subst (Beneath (history w.hall)) (sym (later_history l)) (beneath_append l.posted (history w.hall))
 
 pub later_stamped : {w w' : World} → Later w w' → (k : ℕ) → StampedWrite w.hall k → StampedWrite w'.hall k
 later_stamped l k s = record {
@@ -141,8 +145,8 @@ later_card {w} {w'} kind q card l quiet rule = record {
   issued = omega (arith, rule.issued, l.issued);
   set = rule.set ∙ sym (set_of card.epoch rule.issued);
   previous = λ a e. rule.previous a e ∙ sym (set_of a (omega (arith, rule.issued)));
-  served = λ {e} {t} s. rule.served (old_served l.posted quiet (subst (λ h. Served h q e t) l.past s));
-  stocked = λ {r} {a} {s} k. rule.stocked (old_posted l.posted (λ x still p. still.not_stock p.sender p.kind) quiet (subst (λ h. Stocked h q r a s) l.past k));
+  served = λ {e} {t} s. rule.served (old_served l.posted quiet (subst (λ h. Served h q e t) (later_history l) s));
+  stocked = λ {r} {a} {s} k. rule.stocked (old_posted l.posted (λ x still p. still.not_stock p.sender p.kind) quiet (subst (λ h. Stocked h q r a s) (later_history l) k));
   left = λ e lt m. kept (rule.left e lt (ap (λ s. member s q) (sym (set_of e (omega (arith, rule.issued)))) ∙ m));
   ready = λ e. kept (rule.ready e);
   heard = λ n a m e. stocked_to_grows (later_past l) (rule.heard n a m e);
@@ -219,7 +223,7 @@ module _ {w w' : World} (l : Later w w') (c : ℕ) (seat : Seat) (same : operati
       newer = l.posted ++ rule.newer;
       read = rule.read;
       older = rule.older;
-      splits = l.past ∙ ap (λ h. l.posted ++ h) rule.splits ∙ sym (append_assoc l.posted rule.newer (rule.read ∷ rule.older));
+      splits = later_history l ∙ ap (λ h. l.posted ++ h) rule.splits ∙ sym (append_assoc l.posted rule.newer (rule.read ∷ rule.older));
       asked = rule.asked;
       before = later_settled rule.before;
       answered = λ n m honest. answered_grows (beneath_append l.posted rule.newer) (rule.answered n m (honest_before (later_views l) honest));
@@ -241,8 +245,8 @@ pub later_seat : {w w' : World} (kind c : ℕ) (seat : Seat) (l : Later w w')
     → SeatRule kind w c seat → SeatRule kind w' c seat
 later_seat {w} {w'} kind c seat l quiet same by none stamps seals rule = record {
   configuration = later_configuration l seat.line.configuration rule.configuration;
-  reads = λ {k} {e} p. rule.reads (old_posted l.posted (λ x still a. still.not_read a.sender a.kind) quiet (subst (Posted (ReadEntry c k e)) l.past p));
-  writes = λ {k} {e} {s} p. rule.writes (old_posted l.posted (λ x still a. still.not_write a.sender a.kind) quiet (subst (Posted (WriteEntry c k e s)) l.past p));
+  reads = λ {k} {e} p. rule.reads (old_posted l.posted (λ x still a. still.not_read a.sender a.kind) quiet (subst (Posted (ReadEntry c k e)) (later_history l) p));
+  writes = λ {k} {e} {s} p. rule.writes (old_posted l.posted (λ x still a. still.not_write a.sender a.kind) quiet (subst (Posted (WriteEntry c k e s)) (later_history l) p));
   round_low = omega (arith, rule.round_low, l.entries);
   count_low = omega (arith, rule.count_low, l.entries);
   counts = λ k s e. let old = stamps k s e in omega (arith, rule.counts k old (sym (l.client k old.logged) ∙ e), ap (λ p. p.stamp.count) (l.stamp k old));

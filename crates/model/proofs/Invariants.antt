@@ -13,6 +13,7 @@ use Rattle.wire.specs.Entries.{pair_of}
 use Rattle.wire.specs.Sets.{member}
 use Rattle.wire.specs.Texts.{pair_text, configuration_text}
 use Rattle.stores.specs.declared.card.Card.{Card}
+use Rattle.rules.specs.declared.rules.Rules.{Rules}
 use Rattle.rules.specs.Genuine.{genuine_pair}
 use Rattle.clients.specs.declared.line.Stage.TheVariants.{Reading, Writing, WritingBack, Over}
 use Rattle.clients.specs.Lines.{is_idle}
@@ -24,7 +25,7 @@ use Rattle.histories.specs.Reads.{Answered}
 use Rattle.halls.specs.declared.operation.Operation.{Operation}
 use Rattle.halls.specs.declared.seat.Seat.{Seat}
 use Rattle.model.specs.Tables.{places}
-use Rattle.model.specs.Halls.{Hall, World, no_configuration, has_its_tables, seat_of, operation_of, end_of}
+use Rattle.model.specs.Halls.{Hall, World, no_entry, no_operation, no_configuration, has_its_tables, seat_of, operation_of, end_of}
 use Rattle.model.specs.Runs.{text_of}
 use Rattle.model.specs.Delivering.{entry_of}
 
@@ -242,23 +243,38 @@ pub record Holds (kind : ℕ) (sealed : List Text) (w : World) : Type 0 where
 pub record UnforgedNow (kind : ℕ) (sealed : List Text) (w : World) : Type 0 where
   pub known : (n : ℕ) → n < length w.hall.post.list → (t : Text) → text_of kind (entry_of w.hall n) ≡ Some t → w.genuine t (entry_of w.hall n).seal ≡ true → Memᴰ t sealed
 
--- one world is later than another: what is fixed stays, what grows has grown, and what was said of an operation stands
-pub record Later (w w' : World) : Type 0 where
-  pub rules : w'.hall.rules ≡ w.hall.rules
-  pub marked : w'.hall.marked ≡ w.hall.marked
-  pub issued : length w.hall.roll.list ≤ length w'.hall.roll.list
-  pub roll : (e : ℕ) → e < length w.hall.roll.list → issued_as w'.hall e ≡ issued_as w.hall e
+-- the roll goes on as this list, and rules and marks stay
+pub record RollGrows (h : Hall) (r : Rules) (m : ℕ) (list : List Configuration) : Type 0 where
+  pub rules : r ≡ h.rules
+  pub marked : m ≡ h.marked
+  pub issued : length h.roll.list ≤ length list
+  pub roll : (e : ℕ) → e < length h.roll.list → get_or list e no_configuration ≡ issued_as h e
+
+-- the post goes on as this list
+pub record PostGrows (h : Hall) (list : List Entry) : Type 0 where
   pub posted : List Entry
-  pub past : history w'.hall ≡ posted ++ history w.hall
-  pub entries : length w.hall.post.list ≤ length w'.hall.post.list
-  pub same_entries : (n : ℕ) → n < length w.hall.post.list → entry_of w'.hall n ≡ entry_of w.hall n
-  pub genuine : (t : Text) (s : Seal) → w.genuine t s ≡ true → w'.genuine t s ≡ true
-  pub moment : w.hall.moment ≤ w'.hall.moment
-  pub logged : length w.hall.log.list ≤ length w'.hall.log.list
-  pub client : (k : ℕ) → k < length w.hall.log.list → (operation_of w'.hall k).client ≡ (operation_of w.hall k).client
-  pub writes : (k : ℕ) → k < length w.hall.log.list → (operation_of w'.hall k).writes ≡ (operation_of w.hall k).writes
-  pub began : (k : ℕ) → k < length w.hall.log.list → (operation_of w'.hall k).began ≡ (operation_of w.hall k).began
+  pub past : reverse list ≡ posted ++ history h
+  pub entries : length h.post.list ≤ length list
+  pub same_entries : (n : ℕ) → n < length h.post.list → get_or list n no_entry ≡ entry_of h n
+
+-- the log goes on as this list, at this moment: what was said of an operation stands
+pub record LogGrows (h : Hall) (ops : List Operation) (now : ℕ) : Type 0 where
+  pub moment : h.moment ≤ now
+  pub logged : length h.log.list ≤ length ops
+  pub client : (k : ℕ) → k < length h.log.list → (get_or ops k no_operation).client ≡ (operation_of h k).client
+  pub writes : (k : ℕ) → k < length h.log.list → (get_or ops k no_operation).writes ≡ (operation_of h k).writes
+  pub began : (k : ℕ) → k < length h.log.list → (get_or ops k no_operation).began ≡ (operation_of h k).began
   -- a stamp once taken stays, and so does all of an operation that has ended; what ends now ends at a new moment
-  pub stamp : (k : ℕ) → StampedWrite w.hall k → (operation_of w'.hall k).pair ≡ (operation_of w.hall k).pair
-  pub ended : (k : ℕ) → 0 < end_of (operation_of w.hall k) → operation_of w'.hall k ≡ operation_of w.hall k
-  pub ending : (k : ℕ) → end_of (operation_of w.hall k) ≡ 0 → 0 < end_of (operation_of w'.hall k) → w.hall.moment < end_of (operation_of w'.hall k)
+  pub stamp : (k : ℕ) → StampedWrite h k → (get_or ops k no_operation).pair ≡ (operation_of h k).pair
+  pub ended : (k : ℕ) → 0 < end_of (operation_of h k) → get_or ops k no_operation ≡ operation_of h k
+  pub ending : (k : ℕ) → end_of (operation_of h k) ≡ 0 → 0 < end_of (get_or ops k no_operation) → h.moment < end_of (get_or ops k no_operation)
+
+-- one world is later than another: what is fixed stays, and what grows has grown
+pub record Later (w w' : World) : Type 0 where
+  pub rolls : RollGrows w.hall w'.hall.rules w'.hall.marked w'.hall.roll.list
+  pub open rolls use *
+  pub posts : PostGrows w.hall w'.hall.post.list
+  pub open posts use *
+  pub logs : LogGrows w.hall w'.hall.log.list w'.hall.moment
+  pub open logs use *
+  pub genuine : (t : Text) (s : Seal) → w.genuine t s ≡ true → w'.genuine t s ≡ true

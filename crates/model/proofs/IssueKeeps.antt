@@ -25,7 +25,7 @@ use Rattle.model.specs.Issuing.{is_right_set, has_too_many_marked}
 use Rattle.model.proofs.Frames.{history_added, later_views, later_card, later_seat, later_text}
 use Rattle.model.proofs.Invariants.{views, history, issued_as, Sized, RollRule, KnownText, of_configuration, Holds, Later}
 use Rattle.model.proofs.Opening.{right_below}
-use Rattle.model.proofs.Posts.{before_end, at_end, places_added, answers_posted, no_answer, log_later, seats_begin}
+use Rattle.model.proofs.Posts.{before_end, at_end, post_added, log_stays, places_added, answers_posted, no_answer, log_later, seats_begin}
 use Rattle.model.proofs.Ways.{both}
 
 -- the world after the source has issued a configuration
@@ -49,25 +49,12 @@ module _ (kind : ℕ) (sealed : List Text) (w : World) (holds : Holds kind seale
   world = issue_world w source c seals open_place genuine given
 
   later_issued : Later w (issue_world w source c seals open_place genuine given)
-  unfolding history
+  unfolding post_added
   later_issued = record {
-    rules = refl;
-    marked = refl;
-    issued = simp length-append (omega arith);
-    roll = λ e lt. before_end w.hall.roll.list c no_configuration e lt;
-    posted = config_entry 0 c ∷ [];
-    past = history_added w.hall (config_entry 0 c);
-    entries = simp length-append (omega arith);
-    same_entries = λ n lt. before_end w.hall.post.list (config_entry 0 c) no_entry n lt;
+    rolls = record { rules = refl; marked = refl; issued = simp length-append (omega arith); roll = λ e lt. before_end w.hall.roll.list c no_configuration e lt };
+    posts = post_added w.hall (config_entry 0 c);
+    logs = log_stays w.hall;
     genuine = monotone;
-    moment = omega arith;
-    logged = omega arith;
-    client = λ k lt. refl;
-    writes = λ k lt. refl;
-    began = λ k lt. refl;
-    stamp = λ k s. refl;
-    ended = λ k o. refl;
-    ending = λ k z o. absurd (omega arith);
   }
 
   by_epoch : (e : ℕ) → e < length (w.hall.roll.list ++ (c ∷ [])) → (e < length w.hall.roll.list) ⊎ (length w.hall.roll.list ≡ e)

@@ -17,8 +17,8 @@ use Rattle.model.specs.Tables.{Table, is_full, added, places}
 use Rattle.model.specs.Halls.{Hall, World, no_entry, no_operation, no_seat, has_its_tables, seat_of, operation_of, end_of}
 use Rattle.model.specs.Delivering.{entry_of}
 use Rattle.model.proofs.Frames.{later_answer, later_card, later_seat, QuietReplica, QuietClient}
-use Rattle.model.proofs.Invariants.{views, history, StampedWrite, Sized, KnownText, AnswerRule, SeatRule, LogRule, Holds, Later}
-use Rattle.model.proofs.Posts.{posted_in, before_end, at_end, sized_posted, seats_begin}
+use Rattle.model.proofs.Invariants.{views, history, StampedWrite, Sized, KnownText, AnswerRule, SeatRule, LogRule, Holds, PostGrows, Later}
+use Rattle.model.proofs.Posts.{posted_in, at_end, roll_stays, post_stays, post_added, sized_posted, seats_begin}
 
 abbrev pub moved : World → ℕ → Seat → List Operation → ℕ → Table Entry → (ℕ → ℕ) → (Text → Seal → Bool) → World
 moved w c seat ops moment table seals genuine = record w {
@@ -34,10 +34,8 @@ moved w c seat ops moment table seals genuine = record w {
 
 -- the new entries are of client c, and ask in no round above this one
 pub record Posting (w : World) (c round : ℕ) (table : Table Entry) : Type 0 where
-  pub posted : List Entry
-  pub past : reverse table.list ≡ posted ++ history w.hall
-  pub entries : length w.hall.post.list ≤ length table.list
-  pub same_entries : (n : ℕ) → n < length w.hall.post.list → get_or table.list n no_entry ≡ entry_of w.hall n
+  pub grows : PostGrows w.hall table.list
+  pub open grows use *
   pub new_entries : (n : ℕ) → length w.hall.post.list ≤ n → n < length table.list → (get_or table.list n no_entry).sender < 100
   pub good : Good (views w.hall) (posted ++ history w.hall)
   pub quiet_replicas : (q : ℕ) → Everywhere (λ x below. QuietReplica q x) posted
@@ -48,12 +46,9 @@ pub record Posting (w : World) (c round : ℕ) (table : Table Entry) : Type 0 wh
 
 -- nothing is posted
 unfoldable pub posting_none : {kind : ℕ} {sealed : List Text} {w : World} (c round : ℕ) → Holds kind sealed w → Posting w c round w.hall.post
-unfolding history
-posting_none c round holds = record {
-  posted = [];
-  past = refl;
-  entries = omega arith;
-  same_entries = λ n lt. refl;
+unfolding post_stays
+posting_none {w = w} c round holds = record {
+  grows = post_stays w.hall;
   new_entries = λ n new lt. absurd (omega arith);
   good = holds.good;
   quiet_replicas = λ q. done;
@@ -68,12 +63,9 @@ unfoldable pub posting_one : {kind : ℕ} {sealed : List Text} {w : World} (c ro
     → c < 100 → x.sender ≡ c → x.round ≤ round
     → Justified (views w.hall) x (history w.hall)
     → Posting w c round (added w.hall.post x)
-unfolding history
+unfolding post_added
 posting_one {kind} {sealed} {w} c round x holds room small by low justified = record {
-  posted = x ∷ [];
-  past = reverse-append w.hall.post.list (x ∷ []);
-  entries = simp length-append (omega arith);
-  same_entries = λ n lt. before_end w.hall.post.list x no_entry n lt;
+  grows = post_added w.hall x;
   new_entries = λ n new lt. subst (λ (y : Entry). y.sender < 100) (last n new lt) (omega arith);
   good = next justified holds.good;
   quiet_replicas = λ q. next (record { not_pair = λ e k. omega arith; not_ack = λ e k. omega arith; not_stock = λ e k. omega arith }) done;
@@ -138,25 +130,20 @@ logging_none w c = record {
 unfoldable pub later_moved : {w : World} {c round : ℕ} (seat : Seat) {ops : List Operation} {moment : ℕ} {table : Table Entry} (seals : ℕ → ℕ) (genuine : Text → Seal → Bool)
     → Posting w c round table → Logging w c ops moment → ((t : Text) (s : Seal) → w.genuine t s ≡ true → genuine t s ≡ true)
     → Later w (moved w c seat ops moment table seals genuine)
-unfolding history
-later_moved seat seals genuine p g grows = record {
-  rules = refl;
-  marked = refl;
-  issued = omega arith;
-  roll = λ e lt. refl;
-  posted = p.posted;
-  past = p.past;
-  entries = p.entries;
-  same_entries = p.same_entries;
+later_moved {w = w} seat seals genuine p g grows = record {
+  rolls = roll_stays w.hall;
+  posts = p.grows;
+  logs = record {
+    moment = g.moments;
+    logged = omega (arith, g.same_length);
+    client = λ k lt. g.client k;
+    writes = λ k lt. g.writes k;
+    began = λ k lt. g.began k;
+    stamp = g.stamp;
+    ended = g.ended;
+    ending = g.ending;
+  };
   genuine = grows;
-  moment = g.moments;
-  logged = omega (arith, g.same_length);
-  client = λ k lt. g.client k;
-  writes = λ k lt. g.writes k;
-  began = λ k lt. g.began k;
-  stamp = g.stamp;
-  ended = g.ended;
-  ending = g.ending;
 }
 
 -- the seats of a hall are as many as its clients

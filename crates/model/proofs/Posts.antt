@@ -18,11 +18,11 @@ use Rattle.histories.proofs.Growth.{settled_grows}
 use Rattle.clients.specs.Lines.{is_idle}
 use Rattle.halls.specs.declared.seat.Seat.{Seat}
 use Rattle.model.specs.Tables.{Table, is_empty, is_full, tail, added, places}
-use Rattle.model.specs.Halls.{World, no_entry, no_operation, no_seat, seat_of, operation_of, with_post, with_store}
+use Rattle.model.specs.Halls.{Hall, World, no_entry, no_operation, no_seat, seat_of, operation_of, with_post, with_store}
 use Rattle.model.specs.Delivering.{entry_of}
 use Rattle.model.proofs.Cards.{card_later}
 use Rattle.model.proofs.Frames.{history_added, later_past, later_pair, later_text, later_views, later_answer, later_seat, QuietClient}
-use Rattle.model.proofs.Invariants.{views, history, stamp_number, StampedWrite, OverBefore, Sized, CardRule, CardOf, AnswerRule, OperationRule, SettledSomewhere, SeatRule, LogRule, Holds, Later}
+use Rattle.model.proofs.Invariants.{views, history, stamp_number, StampedWrite, OverBefore, Sized, CardRule, CardOf, AnswerRule, OperationRule, SettledSomewhere, SeatRule, LogRule, Holds, RollGrows, PostGrows, LogGrows, Later}
 
 -- the world with one more entry in its post
 abbrev pub posted_in : World → Entry → World
@@ -39,17 +39,28 @@ before_end xs x d n lt = get_or-append xs (x ∷ []) d n lt
 pub at_end : {T : Type 0} (xs : List T) (x d : T) → get_or (xs ++ (x ∷ [])) (length xs) d ≡ x
 at_end xs x d = get_or-append_seam xs x [] d
 
-unfoldable pub later_posted : (w : World) (x : Entry) → Later w (posted_in w x)
-later_posted w x = record {
-  rules = refl;
-  marked = refl;
-  issued = omega arith;
-  roll = λ e lt. refl;
+-- nothing is issued
+pub roll_stays : (h : Hall) → RollGrows h h.rules h.marked h.roll.list
+roll_stays h = record { rules = refl; marked = refl; issued = omega arith; roll = λ e lt. refl }
+
+-- nothing is posted
+unfoldable pub post_stays : (h : Hall) → PostGrows h h.post.list
+unfolding history
+post_stays h = record { posted = []; past = refl; entries = omega arith; same_entries = λ n lt. refl }
+
+-- one entry is posted
+unfoldable pub post_added : (h : Hall) (x : Entry) → PostGrows h (h.post.list ++ (x ∷ []))
+unfolding history
+post_added h x = record {
   posted = x ∷ [];
-  past = history_added w.hall x;
+  past = history_added h x;
   entries = simp length-append (omega arith);
-  same_entries = λ n lt. before_end w.hall.post.list x _ n lt;
-  genuine = λ t s g. g;
+  same_entries = λ n lt. before_end h.post.list x no_entry n lt;
+}
+
+-- nothing is logged, and no moment is taken
+pub log_stays : (h : Hall) → LogGrows h h.log.list h.moment
+log_stays h = record {
   moment = omega arith;
   logged = omega arith;
   client = λ k lt. refl;
@@ -59,6 +70,10 @@ later_posted w x = record {
   ended = λ k o. refl;
   ending = λ k z o. absurd (omega arith);
 }
+
+unfoldable pub later_posted : (w : World) (x : Entry) → Later w (posted_in w x)
+unfolding post_added
+later_posted w x = record { rolls = roll_stays w.hall; posts = post_added w.hall x; logs = log_stays w.hall; genuine = λ t s g. g }
 
 -- nobody is there before or behind
 pub seats_begin : {kind : ℕ} {w : World} {c : ℕ} → LogRule w → SeatRule kind w c (seat_of w.hall c) → is_idle (seat_of w.hall c).line.stage ≡ false
@@ -190,26 +205,8 @@ aside w seats place saves seals open_place given = record {
 }
 
 unfoldable pub later_aside : (w : World) (seats : List Seat) (place : ℕ → Option Card) (saves : Option ℕ) (seals : ℕ → ℕ) (open_place : ℕ) (given : Text → Seal) → Later w (aside w seats place saves seals open_place given)
-unfolding history
-later_aside w seats place saves seals open_place given = record {
-  rules = refl;
-  marked = refl;
-  issued = omega arith;
-  roll = λ e lt. refl;
-  posted = [];
-  past = refl;
-  entries = omega arith;
-  same_entries = λ n lt. refl;
-  genuine = λ t s g. g;
-  moment = omega arith;
-  logged = omega arith;
-  client = λ k lt. refl;
-  writes = λ k lt. refl;
-  began = λ k lt. refl;
-  stamp = λ k s. refl;
-  ended = λ k o. refl;
-  ending = λ k z o. absurd (omega arith);
-}
+unfolding post_stays
+later_aside w seats place saves seals open_place given = record { rolls = roll_stays w.hall; posts = post_stays w.hall; logs = log_stays w.hall; genuine = λ t s g. g }
 
 -- seats, cards and seals change, each of them by its rule; nothing is posted or logged
 pub aside_keeps : (kind : ℕ) (sealed : List Text) (w : World) (seats : List Seat) (place : ℕ → Option Card) (saves : Option ℕ) (seals : ℕ → ℕ) (open_place : ℕ) (given : Text → Seal)
