@@ -24,8 +24,7 @@ use Rattle.model.specs.Halls.{World, no_entry, no_operation, no_seat, seat_of, o
 use Rattle.model.specs.Beginning.{new_operation, word_or_none}
 use Rattle.model.proofs.Frames.{history_added, later_card, later_configuration, later_seat, later_text}
 use Rattle.model.proofs.Invariants.{views, history, stamp_number, StampedWrite, OverBefore, SettledSomewhere, OperationRule, ReadingRule, SeatRule, LogRule, ends, Holds, Later}
-use Rattle.model.proofs.Stages.{seat_reading}
-use Rattle.model.proofs.Posts.{before_end, at_end, roll_stays, post_added, places_added, answers_posted, no_answer, operation_later, seats_begin}
+use Rattle.model.proofs.Posts.{before_end, at_end, roll_stays, post_added, places_added, answers_posted, no_answer, operation_later}
 use Rattle.model.proofs.SlipKeeps.{seat_same, seat_other}
 
 -- one more operation that has not ended
@@ -189,22 +188,28 @@ module _ (kind : ℕ) (sealed : List Text) (w : World) (holds : Holds kind seale
 
   seat_begun : SeatRule kind (begin_world w client word open_place given) client.number (begin_seat w client.number word)
   unfolding later_begun history read
-  seat_begun = seat_reading (record {
-    configuration = later_configuration later_begun _ mine.configuration;
-    reads = λ {k} {e} p. read_rounds (subst (λ h. Posted (ReadEntry client.number k e) h) (history_added w.hall read) p);
-    writes = λ {k} {e} {s} p. write_rounds (subst (λ h. Posted (WriteEntry client.number k e s) h) (history_added w.hall read) p);
-    round_low = simp length-append (omega (arith, mine.round_low));
-    count_low = simp length-append (omega (arith, mine.count_low));
-    counts = λ k s is. rw (old_op k (stamped_old k s).logged) (mine.counts k (stamped_old k s) (sym (ap (λ z. z.client) (old_op k (stamped_old k s).logged)) ∙ is));
-    own = λ busy. record {
-      logged = simp length-append (omega arith);
-      client = ap (λ z. z.client) new_op;
-      reads = λ e. ap (λ z. z.writes) new_op ∙ ap (λ z. is_some z) e;
-      writes = λ x e. ap (λ z. z.writes) new_op ∙ ap (λ z. is_some z) e;
-      word = λ x e. ap (λ z. z.pair.word) new_op ∙ ap word_or_none e;
+  seat_begun = record {
+    base = record {
+      configuration = later_configuration later_begun _ mine.configuration;
+      past = record {
+        reads = λ {k} {e} p. read_rounds (subst (λ h. Posted (ReadEntry client.number k e) h) (history_added w.hall read) p);
+        writes = λ {k} {e} {s} p. write_rounds (subst (λ h. Posted (WriteEntry client.number k e s) h) (history_added w.hall read) p);
+        round_low = simp length-append (omega (arith, mine.round_low));
+        count_low = simp length-append (omega (arith, mine.count_low));
+        counts = λ k s is. rw (old_op k (stamped_old k s).logged) (mine.counts k (stamped_old k s) (sym (ap (λ z. z.client) (old_op k (stamped_old k s).logged)) ∙ is));
+        newest = λ k lt is. omega (arith, simp length-append at lt);
+      };
+      own = λ busy. record {
+        logged = simp length-append (omega arith);
+        client = ap (λ z. z.client) new_op;
+        reads = λ e. ap (λ z. z.writes) new_op ∙ ap (λ z. is_some z) e;
+        writes = λ x e. ap (λ z. z.writes) new_op ∙ ap (λ z. is_some z) e;
+        word = λ x e. ap (λ z. z.pair.word) new_op ∙ ap word_or_none e;
+      };
+      opens = λ o. record { unended = ap (λ z. end_of z) new_op; within = empty_within _; few = omega (arith, ones_empty) };
     };
-    newest = λ k lt is. omega (arith, simp length-append at lt);
-  }) refl reading (record { unended = ap (λ z. end_of z) new_op; counted = empty_within _; few = omega (arith, ones_empty) })
+    stage = reading;
+  }
     where
       mine : SeatRule kind w client.number (seat_of w.hall client.number)
       mine = holds.seats client.number low high
@@ -213,20 +218,22 @@ module _ (kind : ℕ) (sealed : List Text) (w : World) (holds : Holds kind seale
           → SettledSomewhere (views w.hall) (history w.hall) (stamp_number (operation_of (begin_world w client word open_place given).hall k).pair)
       before k o = let lk = ended_old k o.over in rw (old_op k lk) ((holds.log.each k lk).settled (rw (old_op k lk) at o.over))
 
-      reading : ReadingRule kind (begin_world w client word open_place given) client.number (begin_seat w client.number word)
+      reading : ReadingRule kind (begin_world w client word open_place given) client.number (begin_seat w client.number word).line (length w.hall.log.list)
       reading = record {
-        newer = [];
-        read = read_of client (reading_next (seat_of w.hall client.number).line word);
-        older = history w.hall;
-        splits = history_added w.hall (read_of client (reading_next (seat_of w.hall client.number).line word));
-        asked = record { client = omega (arith, holds.sized.clients); sender = refl; kind = refl; round = refl; epoch = refl };
-        before = before;
+        read_asked = record {
+          newer = [];
+          read = read_of client (reading_next (seat_of w.hall client.number).line word);
+          older = history w.hall;
+          splits = history_added w.hall (read_of client (reading_next (seat_of w.hall client.number).line word));
+          asked = record { client = omega (arith, holds.sized.clients); sender = refl; kind = refl; round = refl; epoch = refl };
+          before = before;
+          unstamped = λ y. ap (λ z. z.pair.stamp.count) new_op;
+          seal_left = λ y. seal (sym (ap (λ z. z.writes) new_op) ∙ y);
+        };
         answered = λ n m honest. absurd (clash (sym (none_in_empty n) ∙ m));
         agreed = λ a n m honest. absurd (clash (sym (none_in_empty n) ∙ m));
         highest = λ ne. absurd (ne refl);
         genuine = λ ne. absurd (ne refl);
-        unstamped = λ y. ap (λ z. z.pair.stamp.count) new_op;
-        seal_left = λ y. seal (sym (ap (λ z. z.writes) new_op) ∙ y);
       }
 
   pub begin_keeps : Holds kind sealed (begin_world w client word open_place given)
@@ -274,8 +281,8 @@ module _ (kind : ℕ) (sealed : List Text) (w : World) (holds : Holds kind seale
       by_client d low' high' (no ne) =
           let s = holds.seats d low' high' in
           subst (λ z. SeatRule kind (begin_world w client word open_place given) d z) (sym (seat_other w.hall client.number d (begin_seat w client.number word) low low' ne))
-          (later_seat kind d (seat_of w.hall d) later_begun (next (record { not_read = λ e k. ne (sym e); not_write = λ e k. ne (sym e) }) done)
-          (λ busy. old_op _ (s.own busy).logged) (λ busy. seats_begin holds.log s busy)
+          (later_seat kind d (seat_of w.hall d) later_begun (next (record { not_read = λ e k. ne (sym e); not_write = λ e k. ne (sym e) }) done) holds.log
+          (λ busy. old_op _ (s.own busy).logged)
           (λ k old new is. ne (sym is ∙ new_client k old new)) (λ k st is. stamped_old k st) (omega arith) s)
         where
           new_client : (k : ℕ) → length w.hall.log.list ≤ k → k < length (begin_world w client word open_place given).hall.log.list → (operation_of (begin_world w client word open_place given).hall k).client ≡ client.number

@@ -1,6 +1,6 @@
 -- The steps of a client that open a new round with READ or WRITE, the log as it was: reading again, writing again, writing back.
 -- Each lemma builds the world that comes of one of its moves.
-use Rattle.std.proofs.Common.{◌≡◌, ℕ, ◌+◌, ◌<◌, ◌≤◌, true, false, ◌⊎◌, List, [], ◌∷◌, ◌++◌, reverse, None, sym, refl, ap, ◌∙◌, subst, ⊎_elim, arith, length-append}
+use Rattle.std.proofs.Common.{◌≡◌, ℕ, ◌+◌, ◌<◌, ◌≤◌, Bool, true, false, ◌⊎◌, List, [], ◌∷◌, ◌++◌, reverse, sym, refl, ap, ◌∙◌, subst, ⊎_elim, arith, length-append}
 use mathlib.Core.List.{reverse-append}
 use Rattle.std.proofs.lemmas.Bool.{both_ways}
 use Rattle.wire.specs.declared.entry.Entry.{Entry}
@@ -9,7 +9,7 @@ use Rattle.wire.specs.Sets.{member}
 use Rattle.wire.specs.Parties.{Client}
 use Rattle.clients.specs.declared.line.Line.{Line}
 use Rattle.clients.specs.declared.line.Stage.TheVariants.{Reading, Writing, WritingBack}
-use Rattle.clients.specs.Lines.{is_idle}
+use Rattle.clients.specs.Lines.{is_open}
 use Rattle.clients.specs.Turns.{read_of, write_of}
 use Rattle.quorums.proofs.Insertion.{none_in_empty, empty_within}
 use Rattle.quorums.proofs.Sizes.{ones_empty}
@@ -20,13 +20,14 @@ use Rattle.histories.specs.Histories.{Fresh}
 use Rattle.histories.proofs.Posting.{justified_read, justified_write}
 use Rattle.halls.specs.declared.seat.Seat.{Seat}
 use Rattle.model.specs.Tables.{is_full, added}
-use Rattle.model.specs.Halls.{Hall, World, operation_of, end_of}
+use Rattle.model.specs.Halls.{Hall, World}
 use Rattle.model.proofs.ClientSteps.{client_low, client_high}
-use Rattle.model.proofs.Frames.{later_pair}
-use Rattle.model.proofs.Invariants.{history, stamp_number, KnownConfiguration, KnownPair, Genuine, OverBefore, SendingRule, OpenRule, OwnRule, SeatRule, Holds}
+use Rattle.model.proofs.Frames.{later_end_pair}
+use Rattle.model.proofs.Invariants.{history, stamp_number, KnownConfiguration, Genuine, EndPair, SendingRule, SeatBase, SeatRule, Holds}
 use Rattle.model.proofs.Moved.{moved, Posting, posting_one, logging_none, later_moved}
 use Rattle.model.proofs.Seats.{with_line, base_moved, counts_kept, own_moved, step_keeps}
-use Rattle.model.proofs.Stages.{SeatBase, seat_reading, seat_writing, seat_back}
+use Rattle.model.proofs.Stages.{in_stage, seat_in}
+use Rattle.model.proofs.StageTests.{opens_busy}
 
 -- no one is counted in a new round
 pub none_counted : {P : Type 0} (n : ℕ) → member 0 n ≡ true → P
@@ -62,30 +63,29 @@ module _ {kind : ℕ} {sealed : List Text} {w : World} (holds : Holds kind seale
         subst (Posted (WriteEntry client.number line.round line.configuration.epoch (stamp_number line.highest))) (sym (ap reverse is ∙ reverse-append w.hall.post.list (write_of client line ∷ []))) (here write_shape)
 
   -- what is the same after any such step
-  module _ (line : Line) (up : line.round ≡ seat.line.round + 1) (last : line.last_count ≡ seat.line.last_count) (word : line.word ≡ seat.line.word)
-      (known : KnownConfiguration w.hall line.configuration) (own : OwnRule w client.number seat) (x : Entry) (p : Posting w client.number line.round (added w.hall.post x)) where
-    base_asked : SeatBase kind (moved w client.number (with_line seat line) w.hall.log.list w.hall.moment (added w.hall.post x) w.hall.seals w.genuine) client.number (with_line seat line)
-    base_asked = base_moved line w.hall.seals w.genuine p (logging_none w client.number) (λ t s e. e) r known (omega arith)
+  module _ (line : Line) (up : line.round ≡ seat.line.round + 1) (last : line.last_count ≡ seat.line.last_count) (word : line.word ≡ seat.line.word) (none : line.counted.0 ≡ 0)
+      (known : KnownConfiguration w.hall line.configuration) (opens : is_open seat.line.stage ≡ true) (x : Entry) (p : Posting w client.number line.round (added w.hall.post x)) where
+    base_asked : SeatBase (moved w client.number (with_line seat line) w.hall.log.list w.hall.moment (added w.hall.post x) w.hall.seals w.genuine) client.number line seat.operation
+    base_asked =
+        let own = r.own (opens_busy seat.line.stage opens) in
+        base_moved line w.hall.seals w.genuine p (logging_none w client.number) (λ t s e. e) r known (omega arith)
         (simp length-append (omega (arith, r.round_low))) (simp length-append (omega (arith, r.count_low)))
         (counts_kept line w.hall.seals w.genuine p (logging_none w client.number) (λ t s e. e) r (omega arith) (λ j s. record { logged = s.logged; writes = s.writes; stamped = s.stamped }))
         (λ busy. own_moved line w.hall.seals w.genuine p (logging_none w client.number) (λ t s e. e) r own word (λ x e. own.word x (sym word ∙ e)))
-
-    open_asked : line.counted.0 ≡ 0 → end_of (operation_of w.hall seat.operation) ≡ 0
-        → OpenRule (moved w client.number (with_line seat line) w.hall.log.list w.hall.moment (added w.hall.post x) w.hall.seals w.genuine) client.number (with_line seat line)
-    open_asked none unended = record {
-      unended = unended;
-      counted = rw none (empty_within line.configuration.set.0);
-      few = rw none (omega (arith, ones_empty));
-    }
+        (λ o. record { unended = (r.opens opens).unended; within = rw none (empty_within line.configuration.set.0); few = rw none (omega (arith, ones_empty)) })
 
   module _ (room : is_full w.hall.post ≡ false) where
     -- a WRITE of a genuine pair is sent in the next round
-    sends : (line : Line) → line.round ≡ seat.line.round + 1 → line.counted.0 ≡ 0 → Genuine kind w line.highest
-        → SendingRule kind (moved w client.number (with_line seat line) w.hall.log.list w.hall.moment (added w.hall.post (write_of client line)) w.hall.seals w.genuine) client.number (with_line seat line)
-    sends line up none genuine = record {
+    sends : {writes : Bool} (line : Line) → line.round ≡ seat.line.round + 1 → line.counted.0 ≡ 0 → is_open seat.line.stage ≡ true → Genuine kind w line.highest → EndPair w line.highest seat.operation writes
+        → SendingRule kind (moved w client.number (with_line seat line) w.hall.log.list w.hall.moment (added w.hall.post (write_of client line)) w.hall.seals w.genuine) client.number line seat.operation writes
+    sends line up none opens genuine found = record {
       asked = write_posted room line up (moved w client.number (with_line seat line) w.hall.log.list w.hall.moment (added w.hall.post (write_of client line)) w.hall.seals w.genuine).hall refl;
       served = rw none (λ n m honest. none_counted n m);
       genuine = genuine;
+      ends_with =
+          let logged = (r.own (opens_busy seat.line.stage opens)).logged in
+          later_end_pair (later_moved (with_line seat line) w.hall.seals w.genuine (posting_write room line up) (logging_none w client.number) (λ t s e. e)) seat.operation refl logged
+          (holds.log.each seat.operation logged).began_by found;
     }
 
     -- the read or write reads again
@@ -95,26 +95,23 @@ module _ {kind : ℕ} {sealed : List Text} {w : World} (holds : Holds kind seale
     unfolding history
     keeps_reread line is up none last word known at =
         step_keeps holds (client_low client) within (with_line seat line) (posting_read room line up)
-        (seat_reading (base_asked line up last word known (r.own busy) (read_of client line) (posting_read room line up)) is
+        (seat_in (base_asked line up last word none known (⊎_elim (ap is_open) (ap is_open) at) (read_of client line) (posting_read room line up)) is
         (record {
-          newer = [];
-          read = read_of client line;
-          older = history w.hall;
-          splits = reverse-append w.hall.post.list (read_of client line ∷ []);
-          asked = read_shape room line up;
-          before = λ k o. (holds.log.each k o.logged).settled o.over;
+          read_asked = record {
+            newer = [];
+            read = read_of client line;
+            older = history w.hall;
+            splits = reverse-append w.hall.post.list (read_of client line ∷ []);
+            asked = read_shape room line up;
+            before = λ k o. (holds.log.each k o.logged).settled o.over;
+            unstamped = ⊎_elim (λ a. (in_stage {s = Reading} r a).unstamped) (λ a e. absurd (both_ways true (sym e ∙ (in_stage {s = WritingBack} r a).writes_is) refl)) at;
+            seal_left = ⊎_elim (λ a. (in_stage {s = Reading} r a).seal_left) (λ a e. absurd (both_ways true (sym e ∙ (in_stage {s = WritingBack} r a).writes_is) refl)) at;
+          };
           answered = rw none (λ n m honest. none_counted n m);
           agreed = rw none (λ agree n m honest. none_counted n m);
           highest = λ some. absurd (some none);
           genuine = λ some. absurd (some none);
-          unstamped = ⊎_elim (λ a. (r.reading a).unstamped) (λ a e. absurd (both_ways true (sym e ∙ r.back_reads a) refl)) at;
-          seal_left = ⊎_elim (λ a. (r.reading a).seal_left) (λ a e. absurd (both_ways true (sym e ∙ r.back_reads a) refl)) at;
-        })
-        (open_asked line up last word known (r.own busy) (read_of client line) (posting_read room line up) none
-        (⊎_elim (λ a. (r.open_reading a).unended) (λ a. (r.open_back a).unended) at)))
-      where
-        busy : is_idle seat.line.stage ≡ false
-        busy = ⊎_elim (ap is_idle) (ap is_idle) at
+        }))
 
     -- the write sends its pair again
     pub keeps_rewrite : (line : Line) → line.stage ≡ Writing → line.round ≡ seat.line.round + 1 → line.counted.0 ≡ 0 → line.last_count ≡ seat.line.last_count → line.word ≡ seat.line.word
@@ -122,25 +119,14 @@ module _ {kind : ℕ} {sealed : List Text} {w : World} (holds : Holds kind seale
         → Holds kind sealed (moved w client.number (with_line seat line) w.hall.log.list w.hall.moment (added w.hall.post (write_of client line)) w.hall.seals w.genuine)
     keeps_rewrite line is up none last word same known at =
         step_keeps holds (client_low client) within (with_line seat line) (posting_write room line up)
-        (seat_writing (base_asked line up last word known (r.own (ap is_idle at)) (write_of client line) (posting_write room line up)) is
-        (sends line up none (subst (Genuine kind w) (sym same) (r.writing at).genuine))
-        (r.writing_pair at ∙ sym same)
-        (let s = r.writing_stamped at in record { logged = s.logged; writes = s.writes; stamped = s.stamped })
-        (open_asked line up last word known (r.own (ap is_idle at)) (write_of client line) (posting_write room line up) none (r.open_writing at).unended))
+        (seat_in (base_asked line up last word none known (ap is_open at) (write_of client line) (posting_write room line up)) is
+        (sends line up none (ap is_open at) (subst (Genuine kind w) (sym same) (in_stage r at).genuine) (subst (λ p. EndPair w p seat.operation true) (sym same) (in_stage r at).ends_with)))
 
     -- the read writes back what it has found
     pub keeps_back : (line : Line) → line.stage ≡ WritingBack → line.round ≡ seat.line.round + 1 → line.counted.0 ≡ 0 → line.last_count ≡ seat.line.last_count → line.word ≡ seat.line.word
-        → line.configuration ≡ seat.line.configuration → seat.line.stage ≡ Reading → seat.line.word ≡ None → KnownPair w.hall line.highest → Genuine kind w line.highest
-        → ((k : ℕ) → OverBefore w.hall k seat.operation → stamp_number (operation_of w.hall k).pair ≤ stamp_number line.highest)
+        → line.configuration ≡ seat.line.configuration → seat.line.stage ≡ Reading → Genuine kind w line.highest → EndPair w line.highest seat.operation false
         → Holds kind sealed (moved w client.number (with_line seat line) w.hall.log.list w.hall.moment (added w.hall.post (write_of client line)) w.hall.seals w.genuine)
-    keeps_back line is up none last word same at reads pair_known genuine after =
+    keeps_back line is up none last word same at genuine found =
         step_keeps holds (client_low client) within (with_line seat line) (posting_write room line up)
-        (seat_back (base_asked line up last word known (r.own (ap is_idle at)) (write_of client line) (posting_write room line up)) is
-        (sends line up none genuine)
-        (later_pair (later_moved (with_line seat line) w.hall.seals w.genuine (posting_write room line up) (logging_none w client.number) (λ t s e. e)) line.highest pair_known)
-        ((r.own (ap is_idle at)).reads reads)
-        (λ k o. after k (record { logged = o.logged; over = o.over; before = o.before }))
-        (open_asked line up last word known (r.own (ap is_idle at)) (write_of client line) (posting_write room line up) none (r.open_reading at).unended))
-      where
-        known : KnownConfiguration w.hall line.configuration
-        known = subst (KnownConfiguration w.hall) (sym same) r.configuration
+        (seat_in (base_asked line up last word none (subst (KnownConfiguration w.hall) (sym same) r.configuration) (ap is_open at) (write_of client line) (posting_write room line up)) is
+        (sends line up none (ap is_open at) genuine found))

@@ -20,6 +20,7 @@ use Rattle.halls.specs.declared.seat.Seat.{Seat}
 use Rattle.model.specs.Halls.{World, seat_of, operation_of, desk_of}
 use Rattle.model.specs.Delivering.{client_step_of, is_over, is_stamping, has_ended}
 use Rattle.model.proofs.Invariants.{SeatRule}
+use Rattle.model.proofs.Stages.{in_stage}
 use Rattle.model.proofs.ClientMoves.{ClientMove, counts_pair, ends_read, writes_back, takes_stamp, counts_ack, ends_write, goes_on, reads_again, writes_again, replies, client_view}
 use Rattle.model.proofs.Ways.{way_in, not_ok, ok_same}
 use Rattle.model.proofs.StageTests.{same_over, same_stamping, not_to_reading, not_to_back, opens_not_over, writing_cases, writing_opens, opens_busy}
@@ -86,8 +87,8 @@ module _ {kind : ℕ} {w : World} (client : Client) (seat : Seat) (rule : SeatRu
   word_kept writing y = by_stage (writing_cases seat.line.stage writing)
     where
       by_stage : (seat.line.stage ≡ Writing) ⊎ (seat.line.stage ≡ WritingBack) → seat.line.highest.word ≡ (operation_of w.hall seat.operation).pair.word
-      by_stage (inl s) = sym (ap (λ p. p.word) (rule.writing_pair s))
-      by_stage (inr s) = absurd (clash (sym (rule.back_reads s) ∙ y))
+      by_stage (inl s) = sym (ap (λ p. p.word) ((in_stage rule s).own_pair refl))
+      by_stage (inr s) = absurd (clash (sym (in_stage rule s).writes_is ∙ y))
 
   -- no step changes more of the operation than this
   pub line_change : {rules : Rules} {e : Entry} {genuine : Bool} {line : Line} {post : Option Entry} → Turned rules client seat.line e genuine line post

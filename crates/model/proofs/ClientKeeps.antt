@@ -18,7 +18,7 @@ use Rattle.clients.specs.declared.fault.ClientFault.{ClientFault}
 use Rattle.clients.specs.declared.line.Line.{Line}
 use Rattle.clients.specs.declared.line.Stage.TheVariants.{Writing, WritingBack}
 use Rattle.clients.specs.declared.turn.Turn.{Turn}
-use Rattle.clients.specs.Lines.{ended, counting, sealed_with as with_seal}
+use Rattle.clients.specs.Lines.{is_idle, ended, counting, sealed_with as with_seal}
 use Rattle.clients.specs.Steps.{Stepped, acted, signing}
 use Rattle.clients.specs.Turns.{Verdict, decided, is_quorum, read_of, write_of}
 use Rattle.halls.specs.declared.operation.Operation.{Operation}
@@ -33,7 +33,7 @@ use Rattle.model.proofs.ClientMoves.{ClientMove, Hears, Acked, heard, backward, 
 use Rattle.model.proofs.ClientMoves.ClientMove.{counts_pair, ends_read, writes_back, takes_stamp, counts_ack, ends_write, goes_on, reads_again, writes_again, replies}
 use Rattle.model.proofs.ClientStamps.{stamped_op, stamping, stamps_keep}
 use Rattle.model.proofs.ClientSteps.{client_low, keeps_pair, keeps_ack, keeps_config, keeps_reply, known_handed}
-use Rattle.model.proofs.Closing.{pair_closes}
+use Rattle.model.proofs.Closing.{found_ends, pair_closes}
 use Rattle.model.proofs.Invariants.{SeatRule, Holds, UnforgedNow}
 use Rattle.model.proofs.Moved.{moved}
 use Rattle.model.proofs.Seats.{with_line}
@@ -154,7 +154,7 @@ module _ {kind : ℕ} {sealed : List Text} {w : World} (holds : Holds kind seale
       let seal = w.given (pair_text kind (forward client (heard (line_of w client) (entry_of w.hall n) from) word).highest) in
       let line = with_seal (forward client (heard (line_of w client) (entry_of w.hall n) from) word) seal in
       stamps_kept w client.number line kind sealed (Some (write_of client line)) (spent w.hall.seals client.number) refl (ap (λ s. is_stamping s Writing) h.stage)
-      (λ genuine grows. stamps_keep holds client within (seat_of w.hall client.number) own_rule room word line
+      (λ genuine grows. stamps_keep holds client within (seat_of w.hall client.number) own_rule room word line.highest
       (stamping holds client within (seat_of w.hall client.number) own_rule small unforged n lt (pair_to h) from word seal h large is)
       (spent w.hall.seals client.number) genuine grows.1 grows.0 enough)
     where
@@ -167,13 +167,14 @@ module _ {kind : ℕ} {sealed : List Text} {w : World} (holds : Holds kind seale
       (keeps_pair holds small unforged n lt client within (seat_of w.hall client.number) own_rule (pair_to h) from h few))
   by_move turn (ends_read from h large reads agree is) = subst (KeptTurn kind sealed w client) (sym is)
       (ends_kept w client.number (ended (heard (line_of w client) (entry_of w.hall n) from)) kind sealed None (ap (λ s. not (is_over s)) h.stage) (not_to_over (line_of w client).stage)
-      (ends_keeps holds client within (seat_of w.hall client.number) own_rule (ended (heard (line_of w client) (entry_of w.hall n) from))
+      (let line = heard (line_of w client) (entry_of w.hall n) from in
+      ends_keeps holds client within (seat_of w.hall client.number) own_rule line.counted line.highest line.agree
       (ending_read holds client within (seat_of w.hall client.number) own_rule small unforged n lt (pair_to h) from h large reads agree)))
   by_move turn (writes_back from h large reads is) = subst (KeptTurn kind sealed w client) (sym is)
       (let line = backward (heard (line_of w client) (entry_of w.hall n) from) in
       let f = pair_closes holds small unforged n lt client.number (pair_to h) (seat_of w.hall client.number) own_rule from h large in
       quiet_kept w client.number line kind sealed (Some (write_of client line)) refl (ap (λ s. is_stamping s WritingBack) h.stage)
-      (keeps_back holds client within (seat_of w.hall client.number) own_rule room line refl refl refl refl refl refl h.stage reads f.known f.genuine f.after))
+      (keeps_back holds client within (seat_of w.hall client.number) own_rule room line refl refl refl refl refl refl h.stage f.genuine (found_ends f ((own_rule.own (ap is_idle h.stage)).reads reads))))
   by_move turn (takes_stamp from word h large to_write is) = subst (KeptTurn kind sealed w client) (sym is) (sealing (eqb (w.hall.seals client.number) 0) from word h large to_write)
   by_move turn (counts_ack from h few is) = subst (KeptTurn kind sealed w client) (sym is)
       (quiet_kept w client.number (counting (line_of w client) from) kind sealed None (same_over (line_of w client).stage) (same_stamping (line_of w client).stage)
@@ -181,7 +182,8 @@ module _ {kind : ℕ} {sealed : List Text} {w : World} (holds : Holds kind seale
   by_move turn (ends_write from h large is) = subst (KeptTurn kind sealed w client) (sym is)
       (ends_kept w client.number (ended (counting (line_of w client) from)) kind sealed None
       (⊎_elim (ap (λ s. not (is_over s))) (ap (λ s. not (is_over s))) (writing_cases (line_of w client).stage h.stage)) (not_to_over (line_of w client).stage)
-      (ends_keeps holds client within (seat_of w.hall client.number) own_rule (ended (counting (line_of w client) from))
+      (let line = counting (line_of w client) from in
+      ends_keeps holds client within (seat_of w.hall client.number) own_rule line.counted line.highest line.agree
       (ending_write holds client within (seat_of w.hall client.number) own_rule small unforged n lt (ack_to h) from h large)))
   by_move turn (goes_on h closed is) = subst (KeptTurn kind sealed w client) (sym is)
       (quiet_kept w client.number (moved_on (line_of w client) (entry_of w.hall n)) kind sealed None (same_over (line_of w client).stage) (same_stamping (line_of w client).stage)

@@ -1,6 +1,7 @@
 -- The steps of a client that leave the log as it is and ask for nothing: counting, going on in a new configuration, and answering BEHIND.
 -- Each lemma builds the world that comes of one of its moves.
-use Rattle.std.proofs.Common.{◌≡◌, ℕ, ◌<◌, ◌≤◌, true, false, List, length, sym, refl, ap, subst, ⊎_elim, arith}
+use Rattle.std.proofs.Common.{◌≡◌, ℕ, ◌<◌, ◌≤◌, true, false, leb, List, length, sym, refl, ap, ◌∙◌, subst, ⊎_elim, arith}
+use borrow.Author.Tests.{clash}
 use lib.Count.{ones}
 use Rattle.std.proofs.lemmas.Bool.{leb-false}
 use Rattle.wire.specs.declared.text.Text.{Text}
@@ -12,7 +13,6 @@ use Rattle.rules.specs.Posts.{config_entry}
 use Rattle.clients.specs.declared.line.Line.{Line}
 use Rattle.clients.specs.Lines.{is_open, counting}
 use Rattle.clients.specs.Turns.{is_quorum}
-use Rattle.quorums.specs.Quorums.{Within}
 use Rattle.quorums.proofs.Insertion.{inserted_within}
 use Rattle.histories.specs.Places.Everywhere.{done, next}
 use Rattle.histories.proofs.Posting.{justified_unruled, Unruled}
@@ -23,12 +23,12 @@ use Rattle.model.specs.Delivering.{entry_of}
 use Rattle.model.specs.Runs.{text_by_kind}
 use Rattle.model.proofs.ClientMoves.{Hears, Acked, Configures, heard, moved_on}
 use Rattle.model.proofs.Heard.{sent_by, heard_reading, counted_sending}
-use Rattle.model.proofs.Invariants.{KnownConfiguration, OpenRule, SeatRule, Holds, UnforgedNow}
+use Rattle.model.proofs.Invariants.{KnownConfiguration, OpenRule, SeatBase, SeatRule, Holds, UnforgedNow}
 use Rattle.model.proofs.Moved.{moved, posting_none, posting_one}
 use Rattle.wire.proofs.Made.{single_within}
 use Rattle.model.proofs.Seals.{checked_configuration}
-use Rattle.model.proofs.Seats.{with_line, base_here, stay_keeps}
-use Rattle.model.proofs.Stages.{seat_idle, seat_reading, seat_writing, seat_back, seat_over}
+use Rattle.model.proofs.Seats.{with_line, stay_keeps}
+use Rattle.model.proofs.Stages.{in_stage, seat_in}
 use Rattle.model.proofs.StageTests.{writing_cases, closed_cases}
 
 -- the numbers of clients are 1 and above, and below 100
@@ -39,12 +39,12 @@ pub client_high : (client : Client) → client.number < 100
 client_high client = omega (arith, (single_within client).1)
 
 -- one more is counted, and they are still too few
-pub open_counted : {w : World} {c : ℕ} {seat : Seat} (line : Line) (from : Replica) → line.counted.0 ≡ inserted seat.line.counted.0 from.number → line.configuration ≡ seat.line.configuration
-    → member seat.line.configuration.set.0 from.number ≡ true → is_quorum w.hall.rules line ≡ false → OpenRule w c seat → OpenRule w c (with_line seat line)
-open_counted {w} {c} {seat} line from counts same inside few o = record {
+pub open_counted : {w : World} {counted set operation : ℕ} (from : Replica) → member set from.number ≡ true → leb (quorum_size w.hall.rules) (ones (inserted counted from.number)) ≡ false
+    → OpenRule w counted set operation → OpenRule w (inserted counted from.number) set operation
+open_counted {w} {counted} from inside few o = record {
   unended = o.unended;
-  counted = subst (λ s. Within s line.configuration.set.0) (sym counts) (subst (λ d. Within (inserted seat.line.counted.0 from.number) d.set.0) (sym same) (inserted_within from.number o.counted inside));
-  few = leb-false (quorum_size w.hall.rules) (ones line.counted.0) few;
+  within = inserted_within from.number o.within inside;
+  few = leb-false (quorum_size w.hall.rules) (ones (inserted counted from.number)) few;
 }
 
 module _ {kind : ℕ} {sealed : List Text} {w : World} (holds : Holds kind sealed w) (small : kind ≤ 63) (unforged : UnforgedNow kind sealed w)
@@ -60,9 +60,8 @@ module _ {kind : ℕ} {sealed : List Text} {w : World} (holds : Holds kind seale
       let line = heard seat.line (entry_of w.hall n) from in
       let sent = sent_by seat.line.configuration.set.0 (entry_of w.hall n).sender from h.inside in
       stay_keeps holds (client_low client) within (with_line seat line) (posting_none client.number seat.line.round holds) done
-      (seat_reading (base_here line r.configuration refl refl refl refl r) h.stage
-      (heard_reading holds small unforged n lt client.number to seat from h (r.reading h.stage))
-      (open_counted line from refl refl sent.inside few (r.open_reading h.stage)))
+      (seat_in (record { configuration = r.configuration; past = r.past; own = r.own; opens = λ o. open_counted from sent.inside few (r.opens o) }) h.stage
+      (heard_reading holds small unforged n lt client.number to seat from h (in_stage r h.stage)))
 
   -- ACK is counted
   pub keeps_ack : (entry_of w.hall n).addressee ≡ client.number → (from : Replica) → Acked seat.line (entry_of w.hall n) from
@@ -72,13 +71,11 @@ module _ {kind : ℕ} {sealed : List Text} {w : World} (holds : Holds kind seale
   keeps_ack to from h few =
       let line = counting seat.line from in
       let sent = sent_by seat.line.configuration.set.0 (entry_of w.hall n).sender from h.inside in
-      let base = base_here line r.configuration refl refl refl refl r in
+      let base : SeatBase w client.number line seat.operation = record { configuration = r.configuration; past = r.past; own = r.own; opens = λ o. open_counted from sent.inside few (r.opens o) } in
       stay_keeps holds (client_low client) within (with_line seat line) (posting_none client.number seat.line.round holds) done
       (⊎_elim
-      (λ is. seat_writing base is (counted_sending holds small unforged n lt client.number to seat from h (r.writing is)) (r.writing_pair is) (r.writing_stamped is)
-      (open_counted line from refl refl sent.inside few (r.open_writing is)))
-      (λ is. seat_back base is (counted_sending holds small unforged n lt client.number to seat from h (r.back is)) (r.back_known is) (r.back_reads is) (r.back_after is)
-      (open_counted line from refl refl sent.inside few (r.open_back is)))
+      (λ is. seat_in base is (counted_sending holds small unforged n lt client.number to seat from h (in_stage r is)))
+      (λ is. seat_in base is (counted_sending holds small unforged n lt client.number to seat from h (in_stage r is)))
       (writing_cases seat.line.stage h.stage))
 
   -- what an entry brings in as configuration is known
@@ -92,9 +89,9 @@ module _ {kind : ℕ} {sealed : List Text} {w : World} (holds : Holds kind seale
   unfolding posting_none
   keeps_config h closed =
       let line = moved_on seat.line (entry_of w.hall n) in
-      let base = base_here line (known_handed h) refl refl refl refl r in
+      let base : SeatBase w client.number line seat.operation = record { configuration = known_handed h; past = r.past; own = r.own; opens = λ o. absurd (clash (sym closed ∙ o)) } in
       stay_keeps holds (client_low client) within (with_line seat line) (posting_none client.number seat.line.round holds) done
-      (⊎_elim (λ is. seat_idle base is) (λ is. seat_over base is (r.over_ended is) (r.over_pair is)) (closed_cases seat.line.stage closed))
+      (⊎_elim (λ is. seat_in base is tt) (λ is. seat_in base is (in_stage r is)) (closed_cases seat.line.stage closed))
 
   -- BEHIND: CONFIG is posted
   pub keeps_reply : is_full w.hall.post ≡ false

@@ -2,7 +2,6 @@
 -- Told from the calls' definitions, in a world that meets the rules.
 use Rattle.std.proofs.Common.{◌≡◌, ℕ, ◌+◌, ◌-◌, ◌<◌, ◌≤◌, Bool, true, false, cond, List, length, get_or, set, Some, None, Option, sym, refl, ap, ◌∙◌, subst, arith, length-append, length-set, get_or-set_other, get_or-set_same}
 use native.Mathlib.Decide.{ℕ_discrete, dec_lt}
-use borrow.Author.Tests.{clash}
 use Rattle.std.proofs.lemmas.List.{get_or_past}
 use Rattle.kinds.specs.declared.word.Word.{Word}
 use Rattle.wire.specs.declared.entry.Entry.{Entry}
@@ -10,8 +9,7 @@ use Rattle.wire.specs.declared.pair.Pair.{Pair}
 use Rattle.wire.specs.declared.text.Text.{Text}
 use Rattle.wire.specs.Parties.{Client}
 use Rattle.clients.specs.declared.line.Line.{Line}
-use Rattle.clients.specs.declared.line.Stage.{Stage}
-use Rattle.clients.specs.declared.line.Stage.TheVariants.{Idle, Reading, Writing, WritingBack, Over}
+use Rattle.clients.specs.declared.line.Stage.TheVariants.{Over}
 use Rattle.clients.specs.Lines.{is_open}
 use Rattle.halls.specs.declared.fault.HallFault.{HallFault}
 use Rattle.halls.specs.declared.operation.Operation.{Operation}
@@ -175,7 +173,7 @@ module _ (kind : ℕ) (sealed : List Text) (w : World) (holds : Holds kind seale
   log_turn : (table : Table Entry) → LineChange op seat.line line → LogTurn (after table)
   log_turn table (unchanged going not_stamping) = stays (another_pair table op.pair going (rw (going, not_stamping)) refl (λ o. refl))
   log_turn table (stamps_now going stamping reading word) = stays (another_pair table line.highest going (rw (going, stamping)) word
-      (λ o. absurd (omega (arith, o, ((holds.seats client.number low high).open_reading reading).unended))))
+      (λ o. absurd (omega (arith, o, ((holds.seats client.number low high).opens (ap is_open reading)).unended))))
   log_turn table (ends_now ended over busy word) = closes (record {
     rules_same = refl;
     marked_same = refl;
@@ -183,7 +181,7 @@ module _ (kind : ℕ) (sealed : List Text) (w : World) (holds : Holds kind seale
     next_moment = ap (λ b. cond b (w.hall.moment + 1) w.hall.moment) ended;
     logged = own_op.logged;
     others = λ j ne. set_at w.hall.log.list seat.operation j _ ne;
-    unended = unended seat.line.stage refl busy;
+    unended = (mine.opens busy).unended;
     now = ap (λ o. end_of o) put;
     by = own_op.client;
     client = ap (λ o. o.client) put;
@@ -197,15 +195,8 @@ module _ (kind : ℕ) (sealed : List Text) (w : World) (holds : Holds kind seale
       mine : SeatRule kind w client.number seat
       mine = holds.seats client.number low high
 
-      own_op : OwnRule w client.number seat
+      own_op : OwnRule w client.number seat.line.word seat.operation
       own_op = mine.own (opens_busy _ busy)
-
-      unended : (s : Stage) → seat.line.stage ≡ s → is_open s ≡ true → end_of op ≡ 0
-      unended Idle is b = absurd (clash b)
-      unended Reading is b = (mine.open_reading is).unended
-      unended Writing is b = (mine.open_writing is).unended
-      unended WritingBack is b = (mine.open_back is).unended
-      unended Over is b = absurd (clash b)
 
       there : get_or (set w.hall.seats (client.number - 1) (record seat { line = line })) (client.number - 1) no_seat ≡ record seat { line = line }
       there = seat_same w.hall client.number _ holds.sized low high

@@ -1,10 +1,11 @@
 -- What stays when a world grows: known pairs and texts, cards of replicas and seats of clients that did nothing.
 -- The lemmas take two worlds of which the second is later.
-use Rattle.std.proofs.Common.{◌≡◌, ℕ, zero, suc, ◌+◌, ◌-◌, ◌<◌, ◌≤◌, true, false, ◌&&◌, List, [], ◌∷◌, ◌++◌, reverse, length, get_or, sym, refl, ap, ◌∙◌, subst, ⊎_elim, append_assoc, arith}
+use Rattle.std.proofs.Common.{◌≡◌, ℕ, zero, suc, ◌+◌, ◌-◌, ◌<◌, ◌≤◌, Bool, true, false, ◌&&◌, List, [], ◌∷◌, ◌++◌, reverse, length, get_or, Option, sym, refl, ap, ◌∙◌, subst, ⊎_elim, append_assoc, arith}
 use mathlib.Core.List.{reverse-append}
 use lib.ListN.{length-reverse}
 use Rattle.std.proofs.lemmas.List.{get_or-reverse, get_or_past}
 use Rattle.std.proofs.lemmas.Bool.{cases_lt, both_ways, or_cases, or_left, or_right, and_parts, and_from}
+use Rattle.kinds.specs.declared.word.Word.{Word}
 use Rattle.wire.specs.declared.entry.Entry.{Entry}
 use Rattle.wire.specs.declared.pair.Configuration.{Configuration}
 use Rattle.wire.specs.declared.pair.Pair.{Pair}
@@ -14,6 +15,9 @@ use Rattle.wire.specs.Sets.{member}
 use Rattle.wire.specs.Texts.{pair_text, configuration_text}
 use Rattle.rules.specs.Genuine.{genuine_pair, same_pair, opening_pair, is_client}
 use Rattle.stores.specs.declared.card.Card.{Card}
+use Rattle.clients.specs.declared.line.Line.{Line}
+use Rattle.clients.specs.declared.line.Stage.{Stage}
+use Rattle.clients.specs.declared.line.Stage.TheVariants.{Idle, Reading, Writing, WritingBack, Over}
 use Rattle.clients.specs.Lines.{is_idle}
 use Rattle.quorums.specs.Quorums.{Extends, Within}
 use Rattle.quorums.proofs.Meeting.{honest_before}
@@ -31,9 +35,10 @@ use Rattle.halls.specs.declared.seat.Seat.{Seat}
 use Rattle.model.specs.Tables.{added}
 use Rattle.model.specs.Halls.{Hall, World, no_entry, no_configuration, no_operation, operation_of, with_post, end_of}
 use Rattle.model.specs.Delivering.{entry_of}
-use Rattle.model.proofs.Invariants.{views, issued_as, history, stamp_number, KnownConfiguration, StampedWrite, KnownPair, KnownText, Genuine, CardRule, AnswerRule, OverBefore, SettledSomewhere, ReadingRule, SendingRule, OpenRule, OwnRule, SeatRule, Later}
+use Rattle.model.proofs.Invariants.{views, issued_as, history, stamp_number, KnownConfiguration, StampedWrite, KnownPair, KnownText, Genuine, CardRule, AnswerRule, OverBefore, SettledSomewhere, ReadingRule, EndPair, SendingRule, OverRule, OpenRule, OwnRule, InStage, SeatRule, LogRule, Later}
 use Rattle.model.proofs.Invariants.KnownPair.{the_opening, a_write}
 use Rattle.model.proofs.Invariants.KnownText.{of_configuration, of_write}
+use Rattle.model.proofs.StageTests.{opens_busy}
 
 -- the entry that is posted stands at the head of the history
 pub history_added : (h : Hall) (x : Entry) → history (with_post h (added h.post x)) ≡ x ∷ history h
@@ -175,17 +180,9 @@ later_answer kind l x rule = record {
   genuine = λ p honest. later_genuine kind l (pair_of x) (rule.genuine p (honest_before (later_views l) honest));
 }
 
--- what a seat has sent and counted stands
-later_sending : {w w' : World} (kind c : ℕ) (seat : Seat) → Later w w' → SendingRule kind w c seat → SendingRule kind w' c seat
-later_sending kind c seat l rule = record {
-  asked = somewhere_grows (later_past l) rule.asked;
-  served = λ n m honest. somewhere_grows (later_past l) (rule.served n m (honest_before (later_views l) honest));
-  genuine = later_genuine kind l seat.line.highest rule.genuine;
-}
-
--- of a seat whose operation stays as it is
-module _ {w w' : World} (l : Later w w') (c : ℕ) (seat : Seat) (same : operation_of w'.hall seat.operation ≡ operation_of w.hall seat.operation) where
-  later_own : OwnRule w c seat → OwnRule w' c seat
+-- of an operation that stays as it is
+module _ {w w' : World} (l : Later w w') (operation : ℕ) (same : operation_of w'.hall operation ≡ operation_of w.hall operation) where
+  later_own : {c : ℕ} {to_write : Option Word} → OwnRule w c to_write operation → OwnRule w' c to_write operation
   later_own rule = record {
     logged = omega (arith, rule.logged, l.logged);
     client = ap (λ op. op.client) same ∙ rule.client;
@@ -194,75 +191,117 @@ module _ {w w' : World} (l : Later w w') (c : ℕ) (seat : Seat) (same : operati
     word = λ word e. ap (λ op. op.pair.word) same ∙ rule.word word e;
   }
 
-  later_open : OpenRule w c seat → OpenRule w' c seat
+  later_open : {counted set : ℕ} → OpenRule w counted set operation → OpenRule w' counted set operation
   later_open rule = record {
     unended = ap (λ op. end_of op) same ∙ rule.unended;
-    counted = rule.counted;
+    within = rule.within;
     few = omega (arith, rule.few, ap (λ rules. rules.faults) l.rules);
   }
 
-  module _ (logged : seat.operation < length w.hall.log.list) (by : (operation_of w.hall seat.operation).began ≤ w.hall.moment) where
+  later_ended : {pair : Pair} → OverRule w pair operation → OverRule w' pair operation
+  later_ended rule = record { ended = omega (arith, rule.ended, ap (λ op. end_of op) same); with_pair = ap (λ op. op.pair) same ∙ rule.with_pair }
+
+  module _ (logged : operation < length w.hall.log.list) (by : (operation_of w.hall operation).began ≤ w.hall.moment) where
     later_settled : {h : List Entry}
-        → ((k : ℕ) → OverBefore w.hall k seat.operation → SettledSomewhere (views w.hall) h (stamp_number (operation_of w.hall k).pair))
-        → (k : ℕ) → OverBefore w'.hall k seat.operation → SettledSomewhere (views w'.hall) h (stamp_number (operation_of w'.hall k).pair)
+        → ((k : ℕ) → OverBefore w.hall k operation → SettledSomewhere (views w.hall) h (stamp_number (operation_of w.hall k).pair))
+        → (k : ℕ) → OverBefore w'.hall k operation → SettledSomewhere (views w'.hall) h (stamp_number (operation_of w'.hall k).pair)
     later_settled {h} rule k over =
-        let old = later_over l k seat.operation logged by over in
+        let old = later_over l k operation logged by over in
         let i = rule k old in
         subst (λ op. SettledSomewhere (views w'.hall) h (stamp_number op.pair)) (sym (l.ended k old.over))
         (record { epoch = i.epoch; settled = settled_extends (later_views l) i.settled })
 
     later_after : {t : ℕ}
-        → ((k : ℕ) → OverBefore w.hall k seat.operation → stamp_number (operation_of w.hall k).pair ≤ t)
-        → (k : ℕ) → OverBefore w'.hall k seat.operation → stamp_number (operation_of w'.hall k).pair ≤ t
+        → ((k : ℕ) → OverBefore w.hall k operation → stamp_number (operation_of w.hall k).pair ≤ t)
+        → (k : ℕ) → OverBefore w'.hall k operation → stamp_number (operation_of w'.hall k).pair ≤ t
     later_after rule k over =
-        let old = later_over l k seat.operation logged by over in
+        let old = later_over l k operation logged by over in
         omega (arith, rule k old, ap (λ op. stamp_number op.pair) (l.ended k old.over))
 
-    later_reading : (kind : ℕ) → w.hall.seals c ≤ w'.hall.seals c → ReadingRule kind w c seat → ReadingRule kind w' c seat
-    later_reading kind seals rule = record {
-      newer = l.posted ++ rule.newer;
-      read = rule.read;
-      older = rule.older;
-      splits = later_history l ∙ ap (λ h. l.posted ++ h) rule.splits ∙ sym (append_assoc l.posted rule.newer (rule.read ∷ rule.older));
-      asked = rule.asked;
-      before = later_settled rule.before;
+    pub later_end_pair : {pair : Pair} {writes : Bool} → EndPair w pair operation writes → EndPair w' pair operation writes
+    later_end_pair {pair} rule = record {
+      known = later_pair l pair rule.known;
+      writes_is = ap (λ op. op.writes) same ∙ rule.writes_is;
+      stamped = λ y. later_stamped l operation (rule.stamped y);
+      own_pair = λ y. ap (λ op. op.pair) same ∙ rule.own_pair y;
+      after = λ r. later_after (rule.after r);
+    }
+
+    later_reading : (kind c : ℕ) (line : Line) → w.hall.seals c ≤ w'.hall.seals c → ReadingRule kind w c line operation → ReadingRule kind w' c line operation
+    later_reading kind c line seals rule = record {
+      read_asked = record {
+        newer = l.posted ++ rule.newer;
+        read = rule.read;
+        older = rule.older;
+        splits = later_history l ∙ ap (λ h. l.posted ++ h) rule.splits ∙ sym (append_assoc l.posted rule.newer (rule.read ∷ rule.older));
+        asked = rule.asked;
+        before = later_settled rule.before;
+        unstamped = λ e. ap (λ op. op.pair.stamp.count) same ∙ rule.unstamped (ap (λ op. op.writes) (sym same) ∙ e);
+        seal_left = λ e. omega (arith, seals, rule.seal_left (ap (λ op. op.writes) (sym same) ∙ e));
+      };
       answered = λ n m honest. answered_grows (beneath_append l.posted rule.newer) (rule.answered n m (honest_before (later_views l) honest));
       agreed = λ e n m honest. somewhere_grows (later_past l) (rule.agreed e n m (honest_before (later_views l) honest));
-      highest = λ some. later_pair l seat.line.highest (rule.highest some);
-      genuine = λ some. later_genuine kind l seat.line.highest (rule.genuine some);
-      unstamped = λ e. ap (λ op. op.pair.stamp.count) same ∙ rule.unstamped (ap (λ op. op.writes) (sym same) ∙ e);
-      seal_left = λ e. omega (arith, seals, rule.seal_left (ap (λ op. op.writes) (sym same) ∙ e));
+      highest = λ some. later_pair l line.highest (rule.highest some);
+      genuine = λ some. later_genuine kind l line.highest (rule.genuine some);
+    }
+
+    later_sending : {writes : Bool} (kind c : ℕ) (line : Line) → SendingRule kind w c line operation writes → SendingRule kind w' c line operation writes
+    later_sending kind c line rule = record {
+      asked = somewhere_grows (later_past l) rule.asked;
+      served = λ n m honest. somewhere_grows (later_past l) (rule.served n m (honest_before (later_views l) honest));
+      genuine = later_genuine kind l line.highest rule.genuine;
+      ends_with = later_end_pair rule.ends_with;
     }
 
 -- the seat's operation stays as it is, and its client keeps its seals
 pub later_seat : {w w' : World} (kind c : ℕ) (seat : Seat) (l : Later w w')
     → Everywhere (λ x below. QuietClient c x) l.posted
+    → LogRule w
     → (is_idle seat.line.stage ≡ false → operation_of w'.hall seat.operation ≡ operation_of w.hall seat.operation)
-    → (is_idle seat.line.stage ≡ false → (operation_of w.hall seat.operation).began ≤ w.hall.moment)
     → ((k : ℕ) → length w.hall.log.list ≤ k → k < length w'.hall.log.list → (operation_of w'.hall k).client ≡ c → ⊥)
     → ((k : ℕ) → StampedWrite w'.hall k → (operation_of w'.hall k).client ≡ c → StampedWrite w.hall k)
     → w.hall.seals c ≤ w'.hall.seals c
     → SeatRule kind w c seat → SeatRule kind w' c seat
-later_seat {w} {w'} kind c seat l quiet same by none stamps seals rule = record {
-  configuration = later_configuration l seat.line.configuration rule.configuration;
-  reads = λ {k} {e} p. rule.reads (old_posted l.posted (λ x still a. still.not_read a.sender a.kind) quiet (subst (Posted (ReadEntry c k e)) (later_history l) p));
-  writes = λ {k} {e} {s} p. rule.writes (old_posted l.posted (λ x still a. still.not_write a.sender a.kind) quiet (subst (Posted (WriteEntry c k e s)) (later_history l) p));
-  round_low = omega (arith, rule.round_low, l.entries);
-  count_low = omega (arith, rule.count_low, l.entries);
-  counts = λ k s e. let old = stamps k s e in omega (arith, rule.counts k old (sym (l.client k old.logged) ∙ e), ap (λ p. p.stamp.count) (l.stamp k old));
-  own = λ busy. later_own l c seat (same busy) (rule.own busy);
-  newest = λ k lt e. ⊎_elim (λ old. rule.newest k old (sym (l.client k old) ∙ e)) (λ new. absurd (none k new lt e)) (cases_lt k (length w.hall.log.list));
-  reading = λ at. let busy = ap is_idle at in later_reading l c seat (same busy) (rule.own busy).logged (by busy) kind seals (rule.reading at);
-  writing = λ at. later_sending kind c seat l (rule.writing at);
-  writing_pair = λ at. ap (λ op. op.pair) (same (ap is_idle at)) ∙ rule.writing_pair at;
-  writing_stamped = λ at. later_stamped l seat.operation (rule.writing_stamped at);
-  back = λ at. later_sending kind c seat l (rule.back at);
-  back_known = λ at. later_pair l seat.line.highest (rule.back_known at);
-  back_reads = λ at. ap (λ op. op.writes) (same (ap is_idle at)) ∙ rule.back_reads at;
-  back_after = λ at. let busy = ap is_idle at in later_after l c seat (same busy) (rule.own busy).logged (by busy) (rule.back_after at);
-  open_reading = λ at. later_open l c seat (same (ap is_idle at)) (rule.open_reading at);
-  open_writing = λ at. later_open l c seat (same (ap is_idle at)) (rule.open_writing at);
-  open_back = λ at. later_open l c seat (same (ap is_idle at)) (rule.open_back at);
-  over_ended = λ at. omega (arith, rule.over_ended at, ap (λ op. end_of op) (same (ap is_idle at)));
-  over_pair = λ at. ap (λ op. op.pair) (same (ap is_idle at)) ∙ rule.over_pair at;
+later_seat {w} {w'} kind c seat l quiet log same none stamps seals rule = record {
+  base = record {
+    configuration = later_configuration l seat.line.configuration rule.configuration;
+    past = record {
+      reads = λ {k} {e} p. rule.reads (old_posted l.posted (λ x still a. still.not_read a.sender a.kind) quiet (subst (Posted (ReadEntry c k e)) (later_history l) p));
+      writes = λ {k} {e} {s} p. rule.writes (old_posted l.posted (λ x still a. still.not_write a.sender a.kind) quiet (subst (Posted (WriteEntry c k e s)) (later_history l) p));
+      round_low = omega (arith, rule.round_low, l.entries);
+      count_low = omega (arith, rule.count_low, l.entries);
+      counts = λ k s e. let old = stamps k s e in omega (arith, rule.counts k old (sym (l.client k old.logged) ∙ e), ap (λ p. p.stamp.count) (l.stamp k old));
+      newest = λ k lt e. ⊎_elim (λ old. rule.newest k old (sym (l.client k old) ∙ e)) (λ new. absurd (none k new lt e)) (cases_lt k (length w.hall.log.list));
+    };
+    own = λ busy. later_own l seat.operation (same busy) (rule.own busy);
+    opens = λ o. later_open l seat.operation (same (opens_busy seat.line.stage o)) (rule.opens o);
+  };
+  stage = by_stage seat.line.stage refl rule.stage;
 }
+  where
+    logged : is_idle seat.line.stage ≡ false → seat.operation < length w.hall.log.list
+    logged busy = (rule.own busy).logged
+
+    by : is_idle seat.line.stage ≡ false → (operation_of w.hall seat.operation).began ≤ w.hall.moment
+    by busy = (log.each seat.operation (logged busy)).began_by
+
+    by_stage : (s : Stage) → seat.line.stage ≡ s → InStage kind w c seat.line seat.operation s → InStage kind w' c seat.line seat.operation s
+    by_stage Idle is r = tt
+    by_stage Reading is r = let busy = ap is_idle is in later_reading l seat.operation (same busy) (logged busy) (by busy) kind c seat.line seals r
+    by_stage Writing is r = let busy = ap is_idle is in later_sending l seat.operation (same busy) (logged busy) (by busy) kind c seat.line r
+    by_stage WritingBack is r = let busy = ap is_idle is in later_sending l seat.operation (same busy) (logged busy) (by busy) kind c seat.line r
+    by_stage Over is r = later_ended l seat.operation (same (ap is_idle is)) r
+
+-- the same, where the log is the old one
+pub seat_stays : {w w' : World} (kind c : ℕ) (seat : Seat) (l : Later w w') → w'.hall.log.list ≡ w.hall.log.list
+    → Everywhere (λ x below. QuietClient c x) l.posted
+    → LogRule w → w.hall.seals c ≤ w'.hall.seals c
+    → SeatRule kind w c seat → SeatRule kind w' c seat
+seat_stays kind c seat l same quiet log =
+    later_seat kind c seat l quiet log (λ busy. ap (λ ops. get_or ops seat.operation no_operation) same)
+    (λ k old new is. absurd (omega (arith, old, new, ap length same)))
+    (λ k s is. record {
+      logged = omega (arith, s.logged, ap length same);
+      writes = ap (λ ops. (get_or ops k no_operation).writes) (sym same) ∙ s.writes;
+      stamped = subst (λ ops. 0 < (get_or ops k no_operation).pair.stamp.count) same s.stamped;
+    })

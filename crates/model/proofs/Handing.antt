@@ -35,6 +35,7 @@ use Rattle.model.proofs.Invariants.{ends, SeatRule, Holds}
 use Rattle.model.proofs.Effects.{hall_is}
 use Rattle.model.proofs.Parties.{client_party}
 use Rattle.model.proofs.SlipKeeps.{seat_same}
+use Rattle.model.proofs.Stages.{in_stage}
 use Rattle.model.proofs.SeatTurns.{Onward, next_line}
 use Rattle.model.proofs.Ways.{some_same, either}
 
@@ -168,7 +169,7 @@ module _ {V : Type 0} (kind : Kind V) (sealed : List Text) (w : World) (holds : 
   stamps_sealed next (writes_back other h large none t) is = not_moves (sym is ∙ t)
   stamps_sealed next (takes_stamp other word h large some t) is =
       subst (λ l. eqb (w.hall.seals (pair_text kind.number l.highest).party) 0 ≡ false) (stamps_line (sym t ∙ is))
-      (ne_eqb (w.hall.seals client.number) 0 (λ none. omega (arith, none, (mine.reading h.stage).seal_left ((mine.own (ap is_idle h.stage)).writes word some))))
+      (ne_eqb (w.hall.seals client.number) 0 (λ none. omega (arith, none, (in_stage mine h.stage).seal_left ((mine.own (ap is_idle h.stage)).writes word some))))
   stamps_sealed next (counts_ack other h few t) is = not_moves (sym is ∙ t)
   stamps_sealed next (ends_write other h large t) is = not_moves (sym is ∙ t)
   stamps_sealed next (goes_on h shut t) is = not_moves (sym is ∙ t)

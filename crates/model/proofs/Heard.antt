@@ -29,9 +29,8 @@ use Rattle.model.specs.Delivering.{entry_of}
 use Rattle.model.specs.Runs.{text_by_kind}
 use Rattle.model.proofs.ClientMoves.{Hears, Acked, heard}
 use Rattle.model.proofs.Frames.{posted_entry}
-use Rattle.model.proofs.Invariants.{views, history, stamp_number, KnownPair, Genuine, ReadingRule, SendingRule, Holds, UnforgedNow}
+use Rattle.model.proofs.Invariants.{views, history, stamp_number, KnownPair, Genuine, AskedRule, ReadingRule, SendingRule, Holds, UnforgedNow}
 use Rattle.model.proofs.Seals.{checked_pair, known_writer}
-use Rattle.model.proofs.Seats.{with_line}
 use Rattle.model.proofs.Stamps.{above_higher, not_above, same_number}
 use Rattle.model.proofs.Ways.{way, not_some}
 
@@ -54,8 +53,8 @@ pair_served (here p) = here (by_pair p)
 pair_served (there s) = there (pair_served s)
 
 -- the READ of the round that is open
-pub read_posted : {kind : ℕ} {w : World} {c : ℕ} {seat : Seat} → ReadingRule kind w c seat → Posted (ReadEntry c seat.line.round seat.line.configuration.epoch) (history w.hall)
-read_posted {w = w} {c = c} {seat = seat} r = subst (Posted (ReadEntry c seat.line.round seat.line.configuration.epoch)) (sym r.splits) (somewhere_grows (beneath_append r.newer (r.read ∷ r.older)) (here r.asked))
+pub read_posted : {w : World} {c round epoch operation : ℕ} → AskedRule w c round epoch operation → Posted (ReadEntry c round epoch) (history w.hall)
+read_posted {c = c} {round = round} {epoch = epoch} r = subst (Posted (ReadEntry c round epoch)) (sym r.splits) (somewhere_grows (beneath_append r.newer (r.read ∷ r.older)) (here r.asked))
 
 -- a set with a member is not empty
 pub not_empty : (s n : ℕ) → member s n ≡ true → s ≡ 0 → ⊥
@@ -133,7 +132,7 @@ module _ {kind : ℕ} {sealed : List Text} {w : World} (holds : Holds kind seale
 
   module _ (small : kind ≤ 63) (unforged : UnforgedNow kind sealed w) (n : ℕ) (lt : n < length w.hall.post.list) (c : ℕ) (to : (entry_of w.hall n).addressee ≡ c) (seat : Seat) (from : Replica) where
     -- a PAIR is heard
-    module _ (h : Hears seat.line (entry_of w.hall n) (genuine_entry w.hall.rules kind w.genuine (entry_of w.hall n)) from) (r : ReadingRule kind w c seat) where
+    module _ (h : Hears seat.line (entry_of w.hall n) (genuine_entry w.hall.rules kind w.genuine (entry_of w.hall n)) from) (r : ReadingRule kind w c seat.line seat.operation) where
       by : SentBy seat.line.configuration.set.0 (entry_of w.hall n).sender from
       by = sent_by seat.line.configuration.set.0 (entry_of w.hall n).sender from h.inside
 
@@ -145,7 +144,7 @@ module _ {kind : ℕ} {sealed : List Text} {w : World} (holds : Holds kind seale
 
       pair_posted : Honest (views w.hall) from.number → Posted (PairTo from.number seat.line.configuration.epoch (stamp_number (pair_of (entry_of w.hall n))) c seat.line.round) (history w.hall)
       pair_posted honest = posted_map (λ y is. record {
-        pair = record { sender = ap (λ z. z.sender) is ∙ by.number; kind = ap (λ z. z.kind) is ∙ h.kind; epoch = ap (λ z. z.epoch) is ∙ pair_epoch n lt by.number to h.round honest h.kind (read_posted r); stamp = ap (λ z. z.count * 256 + z.writer) is };
+        pair = record { sender = ap (λ z. z.sender) is ∙ by.number; kind = ap (λ z. z.kind) is ∙ h.kind; epoch = ap (λ z. z.epoch) is ∙ pair_epoch n lt by.number to h.round honest h.kind (read_posted r.read_asked); stamp = ap (λ z. z.count * 256 + z.writer) is };
         addressee = ap (λ z. z.addressee) is ∙ to;
         round = ap (λ z. z.round) is ∙ h.round;
       })
@@ -159,14 +158,9 @@ module _ {kind : ℕ} {sealed : List Text} {w : World} (holds : Holds kind seale
       both_pairs : Merged kind w seat.line.counted.0 seat.line.highest (pair_of (entry_of w.hall n)) (heard seat.line (entry_of w.hall n) from).highest seat.line.agree (heard seat.line (entry_of w.hall n) from).agree
       both_pairs = merged seat.line.counted.0 seat.line.highest (pair_of (entry_of w.hall n)) seat.line.agree pair_known pair_genuine r.highest r.genuine (eqb seat.line.counted.0 0) (above (pair_of (entry_of w.hall n)).stamp seat.line.highest.stamp) refl refl
 
-      pub heard_reading : ReadingRule kind w c (with_line seat (heard seat.line (entry_of w.hall n) from))
+      pub heard_reading : ReadingRule kind w c (heard seat.line (entry_of w.hall n) from) seat.operation
       heard_reading = record {
-        newer = r.newer;
-        read = r.read;
-        older = r.older;
-        splits = r.splits;
-        asked = r.asked;
-        before = r.before;
+        read_asked = r.read_asked;
         answered = λ q m honest. ⊎_elim
             (λ e. subst (λ x. Answered r.newer x seat.line.configuration.epoch top) (sym e)
             (record { stamp = stamp_number (pair_of (entry_of w.hall n)); low = both_pairs.first; pair = pair_answers (subst (Honest (views w.hall)) e honest) }))
@@ -181,8 +175,6 @@ module _ {kind : ℕ} {sealed : List Text} {w : World} (holds : Holds kind seale
             (inserted_cases seat.line.counted.0 from.number q m);
         highest = λ some. both_pairs.known;
         genuine = λ some. both_pairs.genuine;
-        unstamped = r.unstamped;
-        seal_left = r.seal_left;
       }
         where
           top : ℕ
@@ -192,7 +184,7 @@ module _ {kind : ℕ} {sealed : List Text} {w : World} (holds : Holds kind seale
           under q old le = omega (arith, both_pairs.second (not_empty seat.line.counted.0 q old))
 
     -- an ACK is counted
-    module _ (h : Acked seat.line (entry_of w.hall n) from) (r : SendingRule kind w c seat) where
+    module _ {writes : Bool} (h : Acked seat.line (entry_of w.hall n) from) (r : SendingRule kind w c seat.line seat.operation writes) where
       ack_by : SentBy seat.line.configuration.set.0 (entry_of w.hall n).sender from
       ack_by = sent_by seat.line.configuration.set.0 (entry_of w.hall n).sender from h.inside
 
@@ -206,7 +198,7 @@ module _ {kind : ℕ} {sealed : List Text} {w : World} (holds : Holds kind seale
       })
           (posted_entry w.hall n lt)
 
-      pub counted_sending : SendingRule kind w c (with_line seat (counting seat.line from))
+      pub counted_sending : SendingRule kind w c (counting seat.line from) seat.operation writes
       counted_sending = record {
         asked = r.asked;
         served = λ q m honest. ⊎_elim
@@ -215,4 +207,5 @@ module _ {kind : ℕ} {sealed : List Text} {w : World} (holds : Holds kind seale
             (λ old. r.served q old honest)
             (inserted_cases seat.line.counted.0 from.number q m);
         genuine = r.genuine;
+        ends_with = r.ends_with;
       }

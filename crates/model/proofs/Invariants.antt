@@ -1,6 +1,6 @@
 -- What holds of every world that a run reaches: of its roll, its sealed texts, its cards, its seats and its log.
 -- Nothing here is assumed: `Holds` is proved for the opening, and kept by every call of a run whose seals are not forged.
-use Rattle.std.proofs.Common.{◌≡◌, ℕ, ◌+◌, ◌*◌, ◌^◌, ◌<◌, ◌≤◌, min, true, false, List, [], ◌∷◌, ◌++◌, reverse, length, get_or, Some, None}
+use Rattle.std.proofs.Common.{◌≡◌, ℕ, ◌+◌, ◌*◌, ◌^◌, ◌<◌, ◌≤◌, min, Bool, true, false, List, [], ◌∷◌, ◌++◌, reverse, length, get_or, Some, None, Option}
 use mathlib.Core.List.{Memᴰ}
 use lib.Count.{ones}
 use Rattle.kinds.specs.declared.word.Word.{Word}
@@ -15,8 +15,10 @@ use Rattle.wire.specs.Texts.{pair_text, configuration_text}
 use Rattle.stores.specs.declared.card.Card.{Card}
 use Rattle.rules.specs.declared.rules.Rules.{Rules}
 use Rattle.rules.specs.Genuine.{genuine_pair}
-use Rattle.clients.specs.declared.line.Stage.TheVariants.{Reading, Writing, WritingBack, Over}
-use Rattle.clients.specs.Lines.{is_idle}
+use Rattle.clients.specs.declared.line.Line.{Line}
+use Rattle.clients.specs.declared.line.Stage.{Stage}
+use Rattle.clients.specs.declared.line.Stage.TheVariants.{Idle, Reading, Writing, WritingBack, Over}
+use Rattle.clients.specs.Lines.{is_idle, is_open}
 use Rattle.quorums.specs.Quorums.{Views, Sound, Within, Honest}
 use Rattle.histories.specs.Places.{Posted}
 use Rattle.histories.specs.Shapes.{ReadEntry, WriteEntry, PairEntry, AckEntry}
@@ -133,69 +135,96 @@ pub record SettledSomewhere (v : Views) (past : List Entry) (t : ℕ) : Type 0 w
   pub epoch : ℕ
   pub settled : Settled v past epoch t
 
--- while reading: the READ of this round stands in the history, and below it everything was settled that had ended before
--- this operation began; each counted replica, if honest, has answered above the READ
-pub record ReadingRule (kind : ℕ) (w : World) (c : ℕ) (seat : Seat) : Type 0 where
+-- the READ of a round stands in the history, and below it everything was settled that had ended before this operation began;
+-- a write has no stamp yet, and a seal left for it
+pub record AskedRule (w : World) (c round epoch operation : ℕ) : Type 0 where
   pub newer : List Entry
   pub read : Entry
   pub older : List Entry
   pub splits : history w.hall ≡ newer ++ (read ∷ older)
-  pub asked : ReadEntry c seat.line.round seat.line.configuration.epoch read
-  pub before : (k : ℕ) → OverBefore w.hall k seat.operation → SettledSomewhere (views w.hall) older (stamp_number (operation_of w.hall k).pair)
-  pub answered : (n : ℕ) → member seat.line.counted.0 n ≡ true → Honest (views w.hall) n → Answered newer n seat.line.configuration.epoch (stamp_number seat.line.highest)
-  pub agreed : seat.line.agree ≡ true → (n : ℕ) → member seat.line.counted.0 n ≡ true → Honest (views w.hall) n → Served (history w.hall) n seat.line.configuration.epoch (stamp_number seat.line.highest)
-  pub highest : (seat.line.counted.0 ≡ 0 → ⊥) → KnownPair w.hall seat.line.highest
-  pub genuine : (seat.line.counted.0 ≡ 0 → ⊥) → Genuine kind w seat.line.highest
-  pub unstamped : (operation_of w.hall seat.operation).writes ≡ true → (operation_of w.hall seat.operation).pair.stamp.count ≡ 0
-  pub seal_left : (operation_of w.hall seat.operation).writes ≡ true → 0 < w.hall.seals c
+  pub asked : ReadEntry c round epoch read
+  pub before : (k : ℕ) → OverBefore w.hall k operation → SettledSomewhere (views w.hall) older (stamp_number (operation_of w.hall k).pair)
+  pub unstamped : (operation_of w.hall operation).writes ≡ true → (operation_of w.hall operation).pair.stamp.count ≡ 0
+  pub seal_left : (operation_of w.hall operation).writes ≡ true → 0 < w.hall.seals c
+
+-- while reading: the READ of this round stands in the history, and each counted replica, if honest, has answered above it
+pub record ReadingRule (kind : ℕ) (w : World) (c : ℕ) (line : Line) (operation : ℕ) : Type 0 where
+  pub read_asked : AskedRule w c line.round line.configuration.epoch operation
+  pub open read_asked use *
+  pub answered : (n : ℕ) → member line.counted.0 n ≡ true → Honest (views w.hall) n → Answered newer n line.configuration.epoch (stamp_number line.highest)
+  pub agreed : line.agree ≡ true → (n : ℕ) → member line.counted.0 n ≡ true → Honest (views w.hall) n → Served (history w.hall) n line.configuration.epoch (stamp_number line.highest)
+  pub highest : (line.counted.0 ≡ 0 → ⊥) → KnownPair w.hall line.highest
+  pub genuine : (line.counted.0 ≡ 0 → ⊥) → Genuine kind w line.highest
+
+-- the pair that an operation ends with: a write's own, or one that is not below what had ended before the read began
+pub record EndPair (w : World) (pair : Pair) (operation : ℕ) (writes : Bool) : Type 0 where
+  pub known : KnownPair w.hall pair
+  pub writes_is : (operation_of w.hall operation).writes ≡ writes
+  pub stamped : writes ≡ true → StampedWrite w.hall operation
+  pub own_pair : writes ≡ true → (operation_of w.hall operation).pair ≡ pair
+  pub after : writes ≡ false → (k : ℕ) → OverBefore w.hall k operation → stamp_number (operation_of w.hall k).pair ≤ stamp_number pair
 
 -- while writing or writing back: the WRITE of this round with the pair in flight stands in the history,
 -- and each counted replica, if honest, has served that pair
-pub record SendingRule (kind : ℕ) (w : World) (c : ℕ) (seat : Seat) : Type 0 where
-  pub asked : Posted (WriteEntry c seat.line.round seat.line.configuration.epoch (stamp_number seat.line.highest)) (history w.hall)
-  pub served : (n : ℕ) → member seat.line.counted.0 n ≡ true → Honest (views w.hall) n → Served (history w.hall) n seat.line.configuration.epoch (stamp_number seat.line.highest)
-  pub genuine : Genuine kind w seat.line.highest
+pub record SendingRule (kind : ℕ) (w : World) (c : ℕ) (line : Line) (operation : ℕ) (writes : Bool) : Type 0 where
+  pub asked : Posted (WriteEntry c line.round line.configuration.epoch (stamp_number line.highest)) (history w.hall)
+  pub served : (n : ℕ) → member line.counted.0 n ≡ true → Honest (views w.hall) n → Served (history w.hall) n line.configuration.epoch (stamp_number line.highest)
+  pub genuine : Genuine kind w line.highest
+  pub ends_with : EndPair w line.highest operation writes
+  pub open ends_with use *
 
--- a round is open: the operation is logged and has not ended, and fewer than 2f+1 are counted
-pub record OpenRule (w : World) (c : ℕ) (seat : Seat) : Type 0 where
-  pub unended : end_of (operation_of w.hall seat.operation) ≡ 0
-  pub counted : Within seat.line.counted.0 seat.line.configuration.set.0
-  pub few : ones seat.line.counted.0 < 2 * w.hall.rules.faults + 1
+-- once it is over
+pub record OverRule (w : World) (pair : Pair) (operation : ℕ) : Type 0 where
+  pub ended : 0 < end_of (operation_of w.hall operation)
+  pub with_pair : (operation_of w.hall operation).pair ≡ pair
 
--- the operation of a seat that is not idle
-pub record OwnRule (w : World) (c : ℕ) (seat : Seat) : Type 0 where
-  pub logged : seat.operation < length w.hall.log.list
-  pub client : (operation_of w.hall seat.operation).client ≡ c
-  pub reads : seat.line.word ≡ None → (operation_of w.hall seat.operation).writes ≡ false
-  pub writes : (word : Word) → seat.line.word ≡ Some word → (operation_of w.hall seat.operation).writes ≡ true
-  pub word : (word : Word) → seat.line.word ≡ Some word → (operation_of w.hall seat.operation).pair.word ≡ word
+-- a round is open: the operation has not ended, and fewer than 2f+1 are counted
+pub record OpenRule (w : World) (counted set operation : ℕ) : Type 0 where
+  pub unended : end_of (operation_of w.hall operation) ≡ 0
+  pub within : Within counted set
+  pub few : ones counted < 2 * w.hall.rules.faults + 1
+
+-- the operation of a seat that is not idle, which is to write this word or to read
+pub record OwnRule (w : World) (c : ℕ) (to_write : Option Word) (operation : ℕ) : Type 0 where
+  pub logged : operation < length w.hall.log.list
+  pub client : (operation_of w.hall operation).client ≡ c
+  pub reads : to_write ≡ None → (operation_of w.hall operation).writes ≡ false
+  pub writes : (word : Word) → to_write ≡ Some word → (operation_of w.hall operation).writes ≡ true
+  pub word : (word : Word) → to_write ≡ Some word → (operation_of w.hall operation).pair.word ≡ word
+
+-- what client c has asked, stamped and begun so far
+pub record PastRule (w : World) (c round last_count operation : ℕ) : Type 0 where
+  pub reads : {k e : ℕ} → Posted (ReadEntry c k e) (history w.hall) → k ≤ round
+  pub writes : {k e s : ℕ} → Posted (WriteEntry c k e s) (history w.hall) → k ≤ round
+  -- each round and each stamp went with an entry of its own
+  pub round_low : round ≤ length w.hall.post.list
+  pub count_low : last_count ≤ length w.hall.post.list
+  -- its stamps are not above its last count
+  pub counts : (k : ℕ) → StampedWrite w.hall k → (operation_of w.hall k).client ≡ c → (operation_of w.hall k).pair.stamp.count ≤ last_count
+  -- no operation of the client is newer
+  pub newest : (k : ℕ) → k < length w.hall.log.list → (operation_of w.hall k).client ≡ c → k ≤ operation
+
+-- what a seat keeps in every stage
+pub record SeatBase (w : World) (c : ℕ) (line : Line) (operation : ℕ) : Type 0 where
+  pub configuration : KnownConfiguration w.hall line.configuration
+  pub past : PastRule w c line.round line.last_count operation
+  pub open past use *
+  pub own : is_idle line.stage ≡ false → OwnRule w c line.word operation
+  pub opens : is_open line.stage ≡ true → OpenRule w line.counted.0 line.configuration.set.0 operation
+
+-- what a seat keeps in one stage
+abbrev pub InStage : ℕ → World → ℕ → Line → ℕ → Stage → Type 0
+InStage kind w c line operation Idle = Unit {0}
+InStage kind w c line operation Reading = ReadingRule kind w c line operation
+InStage kind w c line operation Writing = SendingRule kind w c line operation true
+InStage kind w c line operation WritingBack = SendingRule kind w c line operation false
+InStage kind w c line operation Over = OverRule w line.highest operation
 
 -- of the seat of client c
 pub record SeatRule (kind : ℕ) (w : World) (c : ℕ) (seat : Seat) : Type 0 where
-  pub configuration : KnownConfiguration w.hall seat.line.configuration
-  pub reads : {k e : ℕ} → Posted (ReadEntry c k e) (history w.hall) → k ≤ seat.line.round
-  pub writes : {k e s : ℕ} → Posted (WriteEntry c k e s) (history w.hall) → k ≤ seat.line.round
-  -- each round and each stamp went with an entry of its own
-  pub round_low : seat.line.round ≤ length w.hall.post.list
-  pub count_low : seat.line.last_count ≤ length w.hall.post.list
-  -- its stamps are not above its last count
-  pub counts : (k : ℕ) → StampedWrite w.hall k → (operation_of w.hall k).client ≡ c → (operation_of w.hall k).pair.stamp.count ≤ seat.line.last_count
-  pub own : is_idle seat.line.stage ≡ false → OwnRule w c seat
-  -- no operation of the client is newer
-  pub newest : (k : ℕ) → k < length w.hall.log.list → (operation_of w.hall k).client ≡ c → k ≤ seat.operation
-  pub reading : seat.line.stage ≡ Reading → ReadingRule kind w c seat
-  pub writing : seat.line.stage ≡ Writing → SendingRule kind w c seat
-  pub writing_pair : seat.line.stage ≡ Writing → (operation_of w.hall seat.operation).pair ≡ seat.line.highest
-  pub writing_stamped : seat.line.stage ≡ Writing → StampedWrite w.hall seat.operation
-  pub back : seat.line.stage ≡ WritingBack → SendingRule kind w c seat
-  pub back_known : seat.line.stage ≡ WritingBack → KnownPair w.hall seat.line.highest
-  pub back_reads : seat.line.stage ≡ WritingBack → (operation_of w.hall seat.operation).writes ≡ false
-  pub back_after : seat.line.stage ≡ WritingBack → (k : ℕ) → OverBefore w.hall k seat.operation → stamp_number (operation_of w.hall k).pair ≤ stamp_number seat.line.highest
-  pub open_reading : seat.line.stage ≡ Reading → OpenRule w c seat
-  pub open_writing : seat.line.stage ≡ Writing → OpenRule w c seat
-  pub open_back : seat.line.stage ≡ WritingBack → OpenRule w c seat
-  pub over_ended : seat.line.stage ≡ Over → 0 < end_of (operation_of w.hall seat.operation)
-  pub over_pair : seat.line.stage ≡ Over → (operation_of w.hall seat.operation).pair ≡ seat.line.highest
+  pub base : SeatBase w c seat.line seat.operation
+  pub open base use *
+  pub stage : InStage kind w c seat.line seat.operation seat.line.stage
 
 -- of the operation at place k of the log
 pub record OperationRule (w : World) (k : ℕ) : Type 0 where

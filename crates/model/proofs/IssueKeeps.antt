@@ -22,10 +22,10 @@ use Rattle.histories.proofs.Posting.{justified_unruled}
 use Rattle.model.specs.Tables.{is_full, added, places}
 use Rattle.model.specs.Halls.{World, no_configuration, no_entry, seat_of, with_post, with_seals, with_source}
 use Rattle.model.specs.Issuing.{is_right_set, has_too_many_marked}
-use Rattle.model.proofs.Frames.{history_added, later_views, later_card, later_seat, later_text}
+use Rattle.model.proofs.Frames.{history_added, later_views, later_card, seat_stays, later_text}
 use Rattle.model.proofs.Invariants.{views, history, issued_as, Sized, RollRule, KnownText, of_configuration, Holds, Later}
 use Rattle.model.proofs.Opening.{right_below}
-use Rattle.model.proofs.Posts.{before_end, at_end, post_added, log_stays, places_added, answers_posted, no_answer, log_later, seats_begin}
+use Rattle.model.proofs.Posts.{before_end, at_end, post_added, log_stays, places_added, answers_posted, no_answer, log_later}
 use Rattle.model.proofs.Ways.{both}
 
 -- the world after the source has issued a configuration
@@ -130,9 +130,8 @@ module _ (kind : ℕ) (sealed : List Text) (w : World) (holds : Holds kind seale
       kept = mine.kept;
       rule = λ honest. later_card kind q mine.card later_issued (next (record { not_pair = λ e k. omega arith; not_ack = λ e k. omega arith; not_stock = λ e k. omega arith }) done) (mine.rule (honest_before (later_views later_issued) honest));
     };
-    seats = λ p low high. let s = holds.seats p low high in
-        later_seat kind p (seat_of w.hall p) later_issued (next (record { not_read = λ e k. omega arith; not_write = λ e k. omega arith }) done) (λ busy. refl) (λ busy. seats_begin holds.log s busy)
-        (λ k old new is. absurd (omega arith)) (λ k st is. record { logged = st.logged; writes = st.writes; stamped = st.stamped }) (le_of_eq (sym (kept p low))) s;
+    seats = λ p low high. seat_stays kind p (seat_of w.hall p) later_issued refl (next (record { not_read = λ e k. omega arith; not_write = λ e k. omega arith }) done) holds.log
+        (le_of_eq (sym (kept p low))) (holds.seats p low high);
     log = log_later w (issue_world w source c seals open_place genuine given) later_issued refl refl holds.log;
     texts = λ u m. known u (Memᴰ.cases_cons m);
   }

@@ -18,7 +18,7 @@ use Rattle.model.specs.Halls.{Hall, World, no_entry, no_operation, no_seat, has_
 use Rattle.model.specs.Delivering.{entry_of}
 use Rattle.model.proofs.Frames.{later_answer, later_card, later_seat, QuietReplica, QuietClient}
 use Rattle.model.proofs.Invariants.{views, history, StampedWrite, Sized, KnownText, AnswerRule, SeatRule, LogRule, Holds, PostGrows, Later}
-use Rattle.model.proofs.Posts.{posted_in, at_end, roll_stays, post_stays, post_added, sized_posted, seats_begin}
+use Rattle.model.proofs.Posts.{posted_in, at_end, roll_stays, post_stays, post_added, sized_posted}
 
 abbrev pub moved : World → ℕ → Seat → List Operation → ℕ → Table Entry → (ℕ → ℕ) → (Text → Seal → Bool) → World
 moved w c seat ops moment table seals genuine = record w {
@@ -182,9 +182,8 @@ module _ {kind : ℕ} {sealed : List Text} {w : World} (holds : Holds kind seale
   unfolding later_moved
   other_seat d dlow dhigh ne enough =
       let s = holds.seats d dlow dhigh in
-      later_seat kind d (seat_of w.hall d) (later_moved seat seals genuine p g grows) (p.quiet_clients d ne)
+      later_seat kind d (seat_of w.hall d) (later_moved seat seals genuine p g grows) (p.quiet_clients d ne) holds.log
       (λ busy. g.others (seat_of w.hall d).operation (λ e. ne (sym (s.own busy).client ∙ e)))
-      (λ busy. seats_begin holds.log s busy)
       (λ k old new is. absurd (omega (arith, g.same_length)))
       (λ k st is. old_stamped k st (sym (g.client k) ∙ is))
       enough s

@@ -18,7 +18,6 @@ use Rattle.model.specs.Halls.{World, Kind, no_configuration}
 use Rattle.model.specs.Issuing.{is_right_set}
 use Rattle.model.specs.Runs.{Opened, first_card, first_seat}
 use Rattle.model.proofs.Invariants.{views, history, issued_as, CardRule, the_opening, SeatRule, ends, Holds}
-use Rattle.model.proofs.Stages.{seat_idle}
 use Rattle.model.proofs.Ways.{both}
 
 -- nothing stands in an empty history
@@ -102,16 +101,22 @@ module _ {V : Type 0} (kind : Kind V) (v : V) (w : World) (o : Opened kind v w.h
   none_logged k lt = omega (arith, ap length o.log, lt)
 
   seat_rule : (c : ℕ) → SeatRule kind.number w c (first_seat w.hall.rules)
-  seat_rule c = seat_idle (record {
-    configuration = record { issued = omega (arith, one_issued); set = sym (ap (λ z. z.set.0) first_issued) };
-    reads = λ p. absurd (nowhere no_history p);
-    writes = λ p. absurd (nowhere no_history p);
-    round_low = omega arith;
-    count_low = omega arith;
-    counts = λ k s. absurd (none_logged k s.logged);
-    own = λ busy. absurd (clash (sym busy));
-    newest = λ k lt. absurd (none_logged k lt);
-  }) refl
+  seat_rule c = record {
+    base = record {
+      configuration = record { issued = omega (arith, one_issued); set = sym (ap (λ z. z.set.0) first_issued) };
+      past = record {
+        reads = λ p. absurd (nowhere no_history p);
+        writes = λ p. absurd (nowhere no_history p);
+        round_low = omega arith;
+        count_low = omega arith;
+        counts = λ k s. absurd (none_logged k s.logged);
+        newest = λ k lt. absurd (none_logged k lt);
+      };
+      own = λ busy. absurd (clash (sym busy));
+      opens = λ o. absurd (clash o);
+    };
+    stage = tt;
+  }
 
   pub opened_holds : Holds kind.number [] w
   unfolding history ends

@@ -15,13 +15,12 @@ use Rattle.histories.specs.Places.{done, next}
 use Rattle.histories.specs.Histories.{Good, Justified}
 use Rattle.histories.proofs.Extension.{settled_extends}
 use Rattle.histories.proofs.Growth.{settled_grows}
-use Rattle.clients.specs.Lines.{is_idle}
 use Rattle.halls.specs.declared.seat.Seat.{Seat}
 use Rattle.model.specs.Tables.{Table, is_empty, is_full, tail, added, places}
 use Rattle.model.specs.Halls.{Hall, World, no_entry, no_operation, no_seat, seat_of, operation_of, with_post, with_store}
 use Rattle.model.specs.Delivering.{entry_of}
 use Rattle.model.proofs.Cards.{card_later}
-use Rattle.model.proofs.Frames.{history_added, later_past, later_pair, later_text, later_views, later_answer, later_seat, QuietClient}
+use Rattle.model.proofs.Frames.{history_added, later_past, later_pair, later_text, later_views, later_answer, seat_stays, QuietClient}
 use Rattle.model.proofs.Invariants.{views, history, stamp_number, StampedWrite, OverBefore, Sized, CardRule, CardOf, AnswerRule, OperationRule, SettledSomewhere, SeatRule, LogRule, Holds, RollGrows, PostGrows, LogGrows, Later}
 
 -- the world with one more entry in its post
@@ -74,11 +73,6 @@ log_stays h = record {
 unfoldable pub later_posted : (w : World) (x : Entry) → Later w (posted_in w x)
 unfolding post_added
 later_posted w x = record { rolls = roll_stays w.hall; posts = post_added w.hall x; logs = log_stays w.hall; genuine = λ t s g. g }
-
--- nobody is there before or behind
-pub seats_begin : {kind : ℕ} {w : World} {c : ℕ} → LogRule w → SeatRule kind w c (seat_of w.hall c) → is_idle (seat_of w.hall c).line.stage ≡ false
-    → (operation_of w.hall (seat_of w.hall c).operation).began ≤ w.hall.moment
-seats_begin log seat busy = (log.each _ (seat.own busy).logged).began_by
 
 -- what the log says of an operation stands in a later world with the same log
 pub operation_later : (w w' : World) → Later w w' → (k : ℕ) → k < length w.hall.log.list → w.hall.moment ≤ w'.hall.moment
@@ -185,9 +179,7 @@ post_keeps kind sealed w x holds room justified answer cards quiet = record {
   good = subst (λ h. Good (views w.hall) h) (sym (history_added w.hall x)) (next justified holds.good);
   answers = answers_posted kind w (posted_in w x) x l refl answer holds.answers;
   cards = λ q lt. let c = holds.cards q lt in record { card = c.card; kept = c.kept; rule = λ honest. cards q c.card honest (c.rule honest) c.kept };
-  seats = λ c low high. let s = holds.seats c low high in
-      later_seat kind c (seat_of w.hall c) l (next (quiet c low high) done) (λ busy. refl) (λ busy. seats_begin holds.log s busy)
-      (λ k old new is. absurd (omega arith)) (λ k st is. record { logged = st.logged; writes = st.writes; stamped = st.stamped }) (omega arith) s;
+  seats = λ c low high. seat_stays kind c (seat_of w.hall c) l refl (next (quiet c low high) done) holds.log (omega arith) (holds.seats c low high);
   log = log_later w (posted_in w x) l refl refl holds.log;
   texts = λ t m. later_text kind l t (holds.texts t m);
 }
@@ -243,9 +235,7 @@ pub seat_aside : (kind : ℕ) (sealed : List Text) (w : World) (seats : List Sea
     → SeatRule kind (aside w seats place saves seals open_place given) c (seat_of w.hall c)
 unfolding later_aside history
 seat_aside kind sealed w seats place saves seals open_place given holds c low high more =
-    let s = holds.seats c low high in
-    later_seat kind c (seat_of w.hall c) (later_aside w seats place saves seals open_place given) done (λ busy. refl) (λ busy. seats_begin holds.log s busy)
-    (λ k old new is. absurd (omega arith)) (λ k st is. record { logged = st.logged; writes = st.writes; stamped = st.stamped }) more s
+    seat_stays kind c (seat_of w.hall c) (later_aside w seats place saves seals open_place given) refl done holds.log more (holds.seats c low high)
 
 -- a card that stays
 pub card_aside : (kind : ℕ) (w : World) (seats : List Seat) (place : ℕ → Option Card) (saves : Option ℕ) (seals : ℕ → ℕ) (open_place : ℕ) (given : Text → Seal)

@@ -1,6 +1,6 @@
 -- Response: once answers of enough honest replicas to an open round were handed to its client, the round is over.
 -- Each answer that is handed over is counted, and a round in which a quorum is counted is not open.
-use Rattle.std.proofs.Common.{◌≡◌, ℕ, zero, suc, ◌+◌, ◌*◌, ◌<◌, ◌≤◌, max, true, false, ◌&&◌, eqb, leb, ◌⊎◌, length, Some, None, Option, sym, refl, ap, ◌∙◌, subst, inl, inr, add-one, arith, eq-eqb, le-leb, ltb}
+use Rattle.std.proofs.Common.{◌≡◌, ℕ, zero, suc, ◌+◌, ◌*◌, ◌<◌, ◌≤◌, max, true, false, ◌&&◌, eqb, leb, ◌⊎◌, length, Some, None, Option, sym, refl, ap, ◌∙◌, subst, ⊎_elim, inl, inr, add-one, arith, eq-eqb, le-leb, ltb}
 use Rattle.std.proofs.lemmas.Bool.{and_from, lt-ltb}
 use native.Mathlib.Decide.{ℕ_discrete, dec_lt}
 use borrow.Author.Tests.{clash}
@@ -45,6 +45,7 @@ use Rattle.model.proofs.Parties.{client_numbered, replica_numbered}
 use Rattle.model.proofs.RunKeeps.{sealed_at, holds_at, unforged_at}
 use Rattle.model.proofs.SeatTurns.{begun_seat, Onward, onward_same, onward_trans, SeatTurn, seat_turn, turn_onward, Staying, stays_open, is_ended, is_called_off, turn_staying}
 use Rattle.model.proofs.Trace.{grows, collects_over, ended_valued}
+use Rattle.model.proofs.Stages.{in_stage}
 use Rattle.model.proofs.Ways.{not_some}
 
 module _ {V : Type 0} (kind : Kind V) (v : V) (start : World) (lawful : Lawful kind) (opened : Opened kind v start.hall) (run : Run kind start) (unforged : Unforged run) where
@@ -108,7 +109,7 @@ module _ {V : Type 0} (kind : Kind V) (v : V) (start : World) (lawful : Lawful k
               let lc : j + 1 ≤ run.calls = omega arith in
               let high_there = subst (λ r. c ≤ r.clients) (sym (clients_same (j + 1) lc)) s.high in
               let mine = (holds (j + 1) lc).seats c s.low high_there in
-              let o = subst (λ m. 0 < end_of (operation_of (hall_at (j + 1)) m)) its (mine.over_ended over) in
+              let o = subst (λ m. 0 < end_of (operation_of (hall_at (j + 1)) m)) its (in_stage mine over).ended in
               let value = ended_valued kind v start lawful opened run unforged (j + 1) u.place lc o in
               absurd (nothing_ended (sym (u.not_ended j (omega arith)) ∙ collects_over kind v start lawful opened run unforged (j + 1) c u.place lc s.low high_there over its ∙ value.is))
 
@@ -212,23 +213,15 @@ module _ {V : Type 0} (kind : Kind V) (v : V) (start : World) (lawful : Lawful k
         by_stage : (s : Stage) → (seat_of (hall_at i) c).line.stage ≡ s → is_open (seat_of (hall_at i) c).line.stage ≡ true → OpenLine i c r asked
         by_stage Idle is opens = absurd (clash (sym (ap is_open is) ∙ opens))
         by_stage Reading is opens =
-            let s = same_ask 1 (inl refl) (posted_map (λ y a. record { client = a.client; sender = a.sender; kind_asked = a.kind; round = a.round }) (read_posted (mine.reading is))) in
+            let s = same_ask 1 (inl refl) (posted_map (λ y a. record { client = a.client; sender = a.sender; kind_asked = a.kind; round = a.round }) (read_posted (in_stage mine is).read_asked)) in
             reads s.kind_same is s.round_same
-        by_stage Writing is opens = sent_line (inl is) (mine.writing is).asked
-        by_stage WritingBack is opens = sent_line (inr is) (mine.back is).asked
+        by_stage Writing is opens = sent_line (inl is) (in_stage mine is).asked
+        by_stage WritingBack is opens = sent_line (inr is) (in_stage mine is).asked
         by_stage Over is opens = absurd (clash (sym (ap is_open is) ∙ opens))
 
     -- fewer than 2f+1 are counted
     few_counted : ones (seat_of (hall_at i) c).line.counted.0 < 2 * start.hall.rules.faults + 1
-    few_counted = by_line open_line
-      where
-        faults_same : (hall_at i).rules.faults ≡ start.hall.rules.faults
-        faults_same = ap (λ r. r.faults) (clients_same i le)
-
-        by_line : OpenLine i c r asked → ones (seat_of (hall_at i) c).line.counted.0 < 2 * start.hall.rules.faults + 1
-        by_line (reads k stage r) = omega (arith, (mine.open_reading stage).few, faults_same)
-        by_line (writes k (inl stage) r) = omega (arith, (mine.open_writing stage).few, faults_same)
-        by_line (writes k (inr stage) r) = omega (arith, (mine.open_back stage).few, faults_same)
+    few_counted = omega (arith, (mine.opens open_seat.opens).few, ap (λ r. r.faults) (clients_same i le))
 
     line_round : r ≡ (seat_of (hall_at i) c).line.round
     line_round = by_line open_line
@@ -323,7 +316,7 @@ module _ {V : Type 0} (kind : Kind V) (v : V) (start : World) (lawful : Lawful k
                 → ltb (max (heard (seat_of (hall_at p) c).line (entry_of (hall_at p) number) from).highest.stamp.count (seat_of (hall_at p) c).line.last_count) 4294967295 ≡ true
             count_room kind_is stage new large = lt-ltb _ 4294967295 small_enough
               where
-                found : FoundPair kind.number (run.world p) (seat_of (hall_at p) c) (heard (seat_of (hall_at p) c).line (entry_of (hall_at p) number) from).highest (heard (seat_of (hall_at p) c).line (entry_of (hall_at p) number) from).agree
+                found : FoundPair kind.number (run.world p) (seat_of (hall_at p) c).operation (heard (seat_of (hall_at p) c).line (entry_of (hall_at p) number) from).highest (heard (seat_of (hall_at p) c).line (entry_of (hall_at p) number) from).agree
                 found = pair_closes here lawful.numbered (unforged_at kind v start lawful opened run unforged p le) number posted c addressee (seat_of (hall_at p) c) rule from
                     (record {
                       kind = kind_is;
@@ -355,13 +348,12 @@ module _ {V : Type 0} (kind : Kind V) (v : V) (start : World) (lawful : Lawful k
         by_kind (inl a) (writes k stage r) = absurd (omega (arith, a.0, k))
         by_kind (inr a) (reads k stage r) = absurd (omega (arith, a.0, k))
         by_kind (inl a) (reads k stage r) =
-            member_at (sym (pair_epoch here number posted sender addressee in_round honest a.1 (read_posted (rule.reading stage))))
+            member_at (sym (pair_epoch here number posted sender addressee in_round honest a.1 (read_posted (in_stage rule stage).read_asked)))
             ((here.answers number posted).pair {q = q} {e = (entry_of (hall_at p) number).epoch} {s = stamp_number (pair_of (entry_of (hall_at p) number))} (record { sender = sender; kind = a.1; epoch = refl; stamp = refl }) honest)
-        by_kind (inr a) (writes k (inl stage) r) =
-            member_at (sym (ack_epoch here number posted sender addressee in_round honest a.1 (rule.writing stage).asked))
-            ((here.answers number posted).ack {q = q} {e = (entry_of (hall_at p) number).epoch} {c = c} {r = (seat_of (hall_at p) c).line.round} (record { sender = sender; kind = a.1; addressee = addressee; round = in_round; epoch = refl }) honest)
-        by_kind (inr a) (writes k (inr stage) r) =
-            member_at (sym (ack_epoch here number posted sender addressee in_round honest a.1 (rule.back stage).asked))
+        by_kind (inr a) (writes k stage r) =
+            member_at (sym (⊎_elim
+            (λ s. ack_epoch here number posted sender addressee in_round honest a.1 (in_stage {s = Writing} rule s).asked)
+            (λ s. ack_epoch here number posted sender addressee in_round honest a.1 (in_stage {s = WritingBack} rule s).asked) stage))
             ((here.answers number posted).ack {q = q} {e = (entry_of (hall_at p) number).epoch} {c = c} {r = (seat_of (hall_at p) c).line.round} (record { sender = sender; kind = a.1; addressee = addressee; round = in_round; epoch = refl }) honest)
 
   -- who was handed over is counted in the round that is still open

@@ -10,10 +10,9 @@ use Rattle.halls.specs.declared.seat.Seat.{Seat}
 use Rattle.model.specs.Tables.{places}
 use Rattle.model.specs.Halls.{Hall, World, no_seat, seat_of}
 use Rattle.model.specs.Slips.{freed, holding_slip}
-use Rattle.model.proofs.Frames.{later_seat}
-use Rattle.model.proofs.Invariants.{history, Sized, SeatRule, SendingRule, OpenRule, Holds}
+use Rattle.model.proofs.Frames.{seat_stays}
+use Rattle.model.proofs.Invariants.{history, Sized, SeatRule, Holds}
 use Rattle.model.proofs.Posts.{aside, later_aside, seat_aside, seats_keep}
-use Rattle.model.proofs.Stages.{seat_idle}
 use Rattle.model.proofs.Ways.{both}
 
 -- there is one seat for each client
@@ -45,67 +44,18 @@ one_seat_keeps kind sealed w c seat open_place given holds low high rule =
     by_client d low' high' (yes e) =
         subst (λ z. SeatRule kind world z (get_or (set w.hall.seats (c - 1) seat) (z - 1) no_seat)) (sym e)
         (subst (λ s. SeatRule kind world c s) (sym (seat_same w.hall c seat holds.sized low high))
-        (later_seat kind c seat (later_aside w (set w.hall.seats (c - 1) seat) w.hall.place w.hall.saves w.hall.seals open_place given) done (λ busy. refl)
-        (λ busy. (holds.log.each _ (rule.own busy).logged).began_by)
-        (λ k old new is. absurd (omega arith)) (λ k st is. record { logged = st.logged; writes = st.writes; stamped = st.stamped }) (omega arith) rule))
+        (seat_stays kind c seat (later_aside w (set w.hall.seats (c - 1) seat) w.hall.place w.hall.saves w.hall.seals open_place given) refl done holds.log (omega arith) rule))
     by_client d low' high' (no ne) =
         subst (λ s. SeatRule kind world d s) (sym (seat_other w.hall c d seat low low' ne))
         (seat_aside kind sealed w (set w.hall.seats (c - 1) seat) w.hall.place w.hall.saves w.hall.seals open_place given holds d low' high' (omega arith))
 
 -- an idle seat is bound by little
 pub freed_rule : {kind : ℕ} {w : World} {c : ℕ} {seat : Seat} → SeatRule kind w c seat → SeatRule kind w c (freed seat)
-freed_rule s = seat_idle (record {
-  configuration = s.configuration;
-  reads = s.reads;
-  writes = s.writes;
-  round_low = s.round_low;
-  count_low = s.count_low;
-  counts = s.counts;
-  newest = s.newest;
-  own = λ busy. absurd (clash (sym busy));
-}) refl
+freed_rule s = record {
+  base = record { configuration = s.configuration; past = s.past; own = λ busy. absurd (clash (sym busy)); opens = λ o. absurd (clash o) };
+  stage = tt;
+}
 
 -- which slip is lodged does not matter
 pub lodged_rule : {kind : ℕ} {w : World} {c : ℕ} {seat : Seat} (lodged : Option ℕ) → SeatRule kind w c seat → SeatRule kind w c (holding_slip seat lodged)
-lodged_rule {kind} {w} {c} {seat} lodged s = record {
-  configuration = s.configuration;
-  reads = s.reads;
-  writes = s.writes;
-  round_low = s.round_low;
-  count_low = s.count_low;
-  counts = s.counts;
-  newest = s.newest;
-  own = λ busy. let o = s.own busy in record { logged = o.logged; client = o.client; reads = o.reads; writes = o.writes; word = o.word };
-  reading = λ e. let r = s.reading e in record {
-    newer = r.newer;
-    read = r.read;
-    older = r.older;
-    splits = r.splits;
-    asked = r.asked;
-    before = r.before;
-    answered = r.answered;
-    agreed = r.agreed;
-    highest = r.highest;
-    genuine = r.genuine;
-    unstamped = r.unstamped;
-    seal_left = r.seal_left;
-  };
-  writing = λ e. sending (s.writing e);
-  writing_pair = s.writing_pair;
-  writing_stamped = s.writing_stamped;
-  back = λ e. sending (s.back e);
-  back_known = s.back_known;
-  back_reads = s.back_reads;
-  back_after = s.back_after;
-  open_reading = λ e. round (s.open_reading e);
-  open_writing = λ e. round (s.open_writing e);
-  open_back = λ e. round (s.open_back e);
-  over_ended = s.over_ended;
-  over_pair = s.over_pair;
-}
-  where
-    sending : SendingRule kind w c seat → SendingRule kind w c (holding_slip seat lodged)
-    sending r = record { asked = r.asked; served = r.served; genuine = r.genuine }
-
-    round : OpenRule w c seat → OpenRule w c (holding_slip seat lodged)
-    round r = record { unended = r.unended; counted = r.counted; few = r.few }
+lodged_rule lodged s = record { base = s.base; stage = s.stage }

@@ -21,6 +21,7 @@ use Rattle.model.proofs.Growing.{Grows, grows_same, grows_trans, event_grows, en
 use Rattle.model.proofs.Invariants.{KnownPair, the_opening, a_write as of_a_write, Holds}
 use Rattle.model.proofs.RunKeeps.{sealed_at, holds_at}
 use Rattle.model.proofs.Ways.{way_in, both, not_some}
+use Rattle.model.proofs.Stages.{in_stage}
 use Rattle.model.proofs.StageTests.{over_is}
 
 module _ {V : Type 0} (kind : Kind V) (v : V) (start : World) (lawful : Lawful kind) (opened : Opened kind v start.hall) (run : Run kind start) (unforged : Unforged run) where
@@ -253,7 +254,7 @@ module _ {V : Type 0} (kind : Kind V) (v : V) (start : World) (lawful : Lawful k
   collects_over i c k le low high over its =
       rw ((holds i le).sized.tables, le-leb 1 c low, le-leb c (hall_at i).rules.clients high, over, eq-eqb (seat_of (hall_at i) c).operation k its)
       (collected_value (kind.value (seat_of (hall_at i) c).line.highest.word)
-      ∙ ap (λ p. kind.value p.word) (sym (((holds i le).seats c low high).over_pair over)) ∙ ap (λ m. kind.value (operation_of (hall_at i) m).pair.word) its)
+      ∙ ap (λ p. kind.value p.word) (sym (in_stage ((holds i le).seats c low high) over).with_pair) ∙ ap (λ m. kind.value (operation_of (hall_at i) m).pair.word) its)
     where
       collected_value : (o : Option V) → value_answered (collecting o (hall_at i) c (seat_of (hall_at i) c).line.highest).answer ≡ o
       collected_value None = refl
@@ -291,8 +292,8 @@ module _ {V : Type 0} (kind : Kind V) (v : V) (start : World) (lawful : Lawful k
           record {
             low = low;
             high = high;
-            over = subst (λ m. 0 < end_of (operation_of (hall_at i) m)) k_is (mine.over_ended stage);
-            value = ap (λ m. kind.value (operation_of (hall_at i) m).pair.word) (sym k_is) ∙ ap (λ p. kind.value p.word) (mine.over_pair stage) ∙ is ∙ z;
+            over = subst (λ m. 0 < end_of (operation_of (hall_at i) m)) k_is (in_stage mine stage).ended;
+            value = ap (λ m. kind.value (operation_of (hall_at i) m).pair.word) (sym k_is) ∙ ap (λ p. kind.value p.word) (in_stage mine stage).with_pair ∙ is ∙ z;
           }
 
   -- collect answers nothing as long as the operation has not ended
