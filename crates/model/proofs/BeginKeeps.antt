@@ -1,7 +1,7 @@
 -- A begin keeps every rule: READ is posted in the next round, and the operation is logged with the next moment.
 -- The client is idle, log and post have room, and a write has a seal left.
 use Rattle.std.proofs.Common.{◌≡◌, ℕ, ◌+◌, ◌-◌, ◌<◌, ◌≤◌, min, true, false, ◌&&◌, eqb, List, [], ◌∷◌, ◌++◌, length, get_or, set, is_some, Option, sym, refl, ap, ◌∙◌, subst, arith, length-append, length-set}
-use native.Mathlib.Decide.{dec_lt, ℕ_discrete}
+use native.Mathlib.Decide.{dec_lt}
 use borrow.Author.Tests.{clash}
 use Rattle.std.proofs.lemmas.List.{get_or_past}
 use Rattle.kinds.specs.declared.word.Word.{Word}
@@ -22,10 +22,9 @@ use Rattle.halls.specs.declared.seat.Seat.{Seat}
 use Rattle.model.specs.Tables.{is_full, added, places}
 use Rattle.model.specs.Halls.{World, no_entry, no_operation, no_seat, seat_of, operation_of, with_post, with_seat, with_log, end_of}
 use Rattle.model.specs.Beginning.{new_operation, word_or_none}
-use Rattle.model.proofs.Frames.{history_added, later_card, later_configuration, later_seat, later_text}
+use Rattle.model.proofs.Frames.{history_added, card_stays, quiet_below, later_configuration, later_seat, later_text}
 use Rattle.model.proofs.Invariants.{views, history, stamp_number, StampedWrite, OverBefore, SettledSomewhere, OperationRule, ReadingRule, SeatRule, LogRule, ends, Holds, Later}
-use Rattle.model.proofs.Posts.{before_end, at_end, roll_stays, post_added, places_added, answers_posted, no_answer, operation_later}
-use Rattle.model.proofs.SlipKeeps.{seat_same, seat_other}
+use Rattle.model.proofs.Posts.{before_end, at_end, roll_stays, post_added, places_added, answers_posted, no_answer, operation_later, seats_with}
 
 -- one more operation that has not ended
 pub ends_begun : (ops : List Operation) (op : Operation) → end_of op ≡ 0 → ends (ops ++ (op ∷ [])) ≡ ends ops
@@ -240,29 +239,21 @@ module _ (kind : ℕ) (sealed : List Text) (w : World) (holds : Holds kind seale
   unfolding later_begun history read
   begin_keeps = record {
     sized = let s = holds.sized in record {
-      tables = ap (λ p. (eqb p w.hall.lengths.post && eqb (places (added w.hall.log (new_operation client.number word (w.hall.moment + 1)))) w.hall.lengths.log)
-          && (eqb (places w.hall.roll) w.hall.lengths.roll && eqb (length (set w.hall.seats (client.number - 1) (begin_seat w client.number word))) w.hall.rules.clients)) (places_added w.hall.post read post_room)
-          ∙ ap (λ p. (eqb (places w.hall.post) w.hall.lengths.post && eqb p w.hall.lengths.log)
-          && (eqb (places w.hall.roll) w.hall.lengths.roll && eqb (length (set w.hall.seats (client.number - 1) (begin_seat w client.number word))) w.hall.rules.clients)) (places_added w.hall.log (new_operation client.number word (w.hall.moment + 1)) log_room)
-          ∙ ap (λ p. (eqb (places w.hall.post) w.hall.lengths.post && eqb (places w.hall.log) w.hall.lengths.log)
-          && (eqb (places w.hall.roll) w.hall.lengths.roll && eqb p w.hall.rules.clients)) (length-set w.hall.seats (client.number - 1) (begin_seat w client.number word))
-          ∙ s.tables;
-      faults = s.faults;
-      replicas = s.replicas;
-      clients = s.clients;
+      tables = rw (
+        places_added w.hall.post read post_room,
+        places_added w.hall.log (new_operation client.number word (w.hall.moment + 1)) log_room,
+        length-set w.hall.seats (client.number - 1) (begin_seat w client.number word),
+      ) s.tables;
+      limits = s.limits;
       post_limit = rw (places_added w.hall.post read post_room) s.post_limit;
       log_limit = rw (places_added w.hall.log (new_operation client.number word (w.hall.moment + 1)) log_room) s.log_limit;
     };
-    roll = let r = holds.roll in record { sound = r.sound; some = r.some; first = r.first; epochs = r.epochs; source = r.source; inside = r.inside };
+    roll = holds.roll;
     good = subst (λ h. Good (views w.hall) h) (sym (history_added w.hall read))
         (next (justified_read shape (record { reads = λ p. fresh ((holds.seats client.number low high).reads p); writes = λ p. fresh ((holds.seats client.number low high).writes p) })) holds.good);
     answers = answers_posted kind w (begin_world w client word open_place given) read later_begun refl (no_answer kind _ _ (λ e. omega arith) (λ e. omega arith)) holds.answers;
-    cards = λ q lt. let mine = holds.cards q lt in record {
-      card = mine.card;
-      kept = mine.kept;
-      rule = λ honest. later_card kind q mine.card later_begun (next (record { not_pair = λ e k. omega arith; not_ack = λ e k. omega arith; not_stock = λ e k. omega arith }) done) (mine.rule honest);
-    };
-    seats = λ d low' high'. by_client d low' high' (ℕ_discrete d client.number);
+    cards = λ q lt. card_stays kind q later_begun refl (next (quiet_below (omega (arith, holds.sized.clients))) done) (holds.cards q lt);
+    seats = seats_with client.number (begin_seat w client.number word) holds.sized low high seat_begun others;
     log = log_begun;
     texts = λ t m. later_text kind later_begun t (holds.texts t m);
   }
@@ -273,17 +264,12 @@ module _ (kind : ℕ) (sealed : List Text) (w : World) (holds : Holds kind seale
       fresh : {k : ℕ} → k ≤ (seat_of w.hall client.number).line.round → k < (seat_of w.hall client.number).line.round + 1
       fresh le = omega arith
 
-      by_client : (d : ℕ) → 1 ≤ d → d ≤ w.hall.rules.clients → Dec (d ≡ client.number)
-          → SeatRule kind (begin_world w client word open_place given) d (get_or (set w.hall.seats (client.number - 1) (begin_seat w client.number word)) (d - 1) no_seat)
-      by_client d low' high' (yes e) =
-          subst (λ z. SeatRule kind (begin_world w client word open_place given) z (get_or (set w.hall.seats (client.number - 1) (begin_seat w client.number word)) (z - 1) no_seat)) (sym e)
-          (subst (λ s. SeatRule kind (begin_world w client word open_place given) client.number s) (sym (seat_same w.hall client.number (begin_seat w client.number word) holds.sized low high)) seat_begun)
-      by_client d low' high' (no ne) =
+      others : (d : ℕ) → 1 ≤ d → d ≤ w.hall.rules.clients → (d ≡ client.number → ⊥) → SeatRule kind (begin_world w client word open_place given) d (seat_of w.hall d)
+      others d low' high' ne =
           let s = holds.seats d low' high' in
-          subst (λ z. SeatRule kind (begin_world w client word open_place given) d z) (sym (seat_other w.hall client.number d (begin_seat w client.number word) low low' ne))
-          (later_seat kind d (seat_of w.hall d) later_begun (next (record { not_read = λ e k. ne (sym e); not_write = λ e k. ne (sym e) }) done) holds.log
+          later_seat kind d (seat_of w.hall d) later_begun (next (record { not_read = λ e k. ne (sym e); not_write = λ e k. ne (sym e) }) done) holds.log
           (λ busy. old_op _ (s.own busy).logged)
-          (λ k old new is. ne (sym is ∙ new_client k old new)) (λ k st is. stamped_old k st) (omega arith) s)
+          (λ k old new is. ne (sym is ∙ new_client k old new)) (λ k st is. stamped_old k st) (omega arith) s
         where
           new_client : (k : ℕ) → length w.hall.log.list ≤ k → k < length (begin_world w client word open_place given).hall.log.list → (operation_of (begin_world w client word open_place given).hall k).client ≡ client.number
           new_client k old new = ap (λ m. (operation_of (begin_world w client word open_place given).hall m).client) at_last ∙ ap (λ z. z.client) new_op

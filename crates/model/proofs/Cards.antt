@@ -156,34 +156,3 @@ card_stocked {kind} {w} {q} {card} from p a is higher_than known genuine inside 
       where
         before : a < length w.hall.roll.list
         before = omega (arith, r.issued)
-
--- a later world, in which it has served nothing higher and given no stock of its present epoch
-pub card_later : {w w' : World} {kind q : ℕ} {card : Card} (l : Later w w')
-    → ((e t : ℕ) → Served (history w'.hall) q e t → t ≤ stamp_number card.pair)
-    → ((r a s : ℕ) → Stocked (history w'.hall) q r a s → a < card.epoch)
-    → CardRule kind w q card → CardRule kind w' q card
-card_later {w} {w'} {kind} {q} {card} l serves stocks r = record {
-  issued = more r.issued;
-  set = r.set ∙ sym (ap (λ x. x.set.0) (l.roll card.epoch r.issued));
-  previous = λ a e. r.previous a e ∙ sym (ap (λ x. x.set.0) (l.roll a (earlier a e)));
-  served = λ s. serves _ _ s;
-  stocked = λ s. stocks _ _ _ s;
-  left = λ e lt m. grown (r.left e lt (sym (ap (λ x. member x.set.0 q) (l.roll e (under e lt))) ∙ m));
-  ready = λ y. grown (r.ready y);
-  heard = λ n a m e. stocked_to_grows (later_past l) (r.heard n a m e);
-  heard_within = λ a e. subst (λ x. Within card.heard.0 x.set.0) (sym (l.roll a (earlier a e))) (r.heard_within a e);
-  known = later_pair l card.pair r.known;
-  genuine = later_genuine kind l card.pair r.genuine;
-}
-  where
-    more : card.epoch < length w.hall.roll.list → card.epoch < length w'.hall.roll.list
-    more lt = omega (arith, l.issued)
-
-    earlier : (a : ℕ) → card.epoch ≡ a + 1 → a < length w.hall.roll.list
-    earlier a e = omega (arith, r.issued)
-
-    under : (e : ℕ) → e < card.epoch → e < length w.hall.roll.list
-    under e lt = omega (arith, r.issued)
-
-    grown : {e : ℕ} → Evidence (views w.hall) (history w.hall) q e (stamp_number card.pair) → Evidence (views w'.hall) (history w'.hall) q e (stamp_number card.pair)
-    grown ev = evidence_extends (later_views l) (evidence_grows (later_past l) ev)

@@ -4,12 +4,15 @@ use Rattle.std.proofs.Common.{◌≡◌, ℕ, ◌+◌, ◌<◌, ◌≤◌, Bool,
 use mathlib.Core.List.{reverse-append}
 use Rattle.std.proofs.lemmas.Bool.{both_ways}
 use Rattle.wire.specs.declared.entry.Entry.{Entry}
+use Rattle.wire.specs.declared.pair.Configuration.{Configuration}
+use Rattle.wire.specs.declared.pair.Pair.{Pair}
 use Rattle.wire.specs.declared.text.Text.{Text}
 use Rattle.wire.specs.Sets.{member}
 use Rattle.wire.specs.Parties.{Client}
 use Rattle.clients.specs.declared.line.Line.{Line}
+use Rattle.clients.specs.declared.line.Stage.{Stage}
 use Rattle.clients.specs.declared.line.Stage.TheVariants.{Reading, Writing, WritingBack}
-use Rattle.clients.specs.Lines.{is_open}
+use Rattle.clients.specs.Lines.{no_pair, is_open, opened, configured_as}
 use Rattle.clients.specs.Turns.{read_of, write_of}
 use Rattle.quorums.proofs.Insertion.{none_in_empty, empty_within}
 use Rattle.quorums.proofs.Sizes.{ones_empty}
@@ -32,6 +35,13 @@ use Rattle.model.proofs.StageTests.{opens_busy}
 -- no one is counted in a new round
 pub none_counted : {P : Type 0} (n : ℕ) → member 0 n ≡ true → P
 none_counted n m = absurd (both_ways (member 0 n) (none_in_empty n) m)
+
+-- the line of a seat in a new round, with this pair in flight or none
+abbrev pub asked_line : Seat → Configuration → Stage → Pair → Line
+asked_line seat configuration stage pair = opened (configured_as seat.line configuration) stage (seat.line.round + 1) pair
+
+abbrev pub asked_world : World → Client → Seat → Line → Entry → World
+asked_world w client seat line x = moved w client.number (with_line seat line) w.hall.log.list w.hall.moment (added w.hall.post x) w.hall.seals w.genuine
 
 module _ {kind : ℕ} {sealed : List Text} {w : World} (holds : Holds kind sealed w) (client : Client) (within : client.number ≤ w.hall.rules.clients)
     (seat : Seat) (r : SeatRule kind w client.number seat) where
@@ -63,70 +73,72 @@ module _ {kind : ℕ} {sealed : List Text} {w : World} (holds : Holds kind seale
         subst (Posted (WriteEntry client.number line.round line.configuration.epoch (stamp_number line.highest))) (sym (ap reverse is ∙ reverse-append w.hall.post.list (write_of client line ∷ []))) (here write_shape)
 
   -- what is the same after any such step
-  module _ (line : Line) (up : line.round ≡ seat.line.round + 1) (last : line.last_count ≡ seat.line.last_count) (word : line.word ≡ seat.line.word) (none : line.counted.0 ≡ 0)
-      (known : KnownConfiguration w.hall line.configuration) (opens : is_open seat.line.stage ≡ true) (x : Entry) (p : Posting w client.number line.round (added w.hall.post x)) where
-    base_asked : SeatBase (moved w client.number (with_line seat line) w.hall.log.list w.hall.moment (added w.hall.post x) w.hall.seals w.genuine) client.number line seat.operation
+  module _ (configuration : Configuration) (stage : Stage) (pair : Pair) (known : KnownConfiguration w.hall configuration) (opens : is_open seat.line.stage ≡ true)
+      (x : Entry) (p : Posting w client.number (seat.line.round + 1) (added w.hall.post x)) where
+    base_asked : SeatBase (asked_world w client seat (asked_line seat configuration stage pair) x) client.number (asked_line seat configuration stage pair) seat.operation
     base_asked =
+        let line = asked_line seat configuration stage pair in
         let own = r.own (opens_busy seat.line.stage opens) in
         base_moved line w.hall.seals w.genuine p (logging_none w client.number) (λ t s e. e) r known (omega arith)
         (simp length-append (omega (arith, r.round_low))) (simp length-append (omega (arith, r.count_low)))
         (counts_kept line w.hall.seals w.genuine p (logging_none w client.number) (λ t s e. e) r (omega arith) (λ j s. record { logged = s.logged; writes = s.writes; stamped = s.stamped }))
-        (λ busy. own_moved line w.hall.seals w.genuine p (logging_none w client.number) (λ t s e. e) r own word (λ x e. own.word x (sym word ∙ e)))
-        (λ o. record { unended = (r.opens opens).unended; within = rw none (empty_within line.configuration.set.0); few = rw none (omega (arith, ones_empty)) })
+        (λ busy. own_moved line w.hall.seals w.genuine p (logging_none w client.number) (λ t s e. e) r own refl own.word)
+        (λ o. record { unended = (r.opens opens).unended; within = empty_within configuration.set.0; few = omega (arith, ones_empty) })
 
   module _ (room : is_full w.hall.post ≡ false) where
     -- a WRITE of a genuine pair is sent in the next round
-    sends : {writes : Bool} (line : Line) → line.round ≡ seat.line.round + 1 → line.counted.0 ≡ 0 → is_open seat.line.stage ≡ true → Genuine kind w line.highest → EndPair w line.highest seat.operation writes
-        → SendingRule kind (moved w client.number (with_line seat line) w.hall.log.list w.hall.moment (added w.hall.post (write_of client line)) w.hall.seals w.genuine) client.number line seat.operation writes
-    sends line up none opens genuine found = record {
-      asked = write_posted room line up (moved w client.number (with_line seat line) w.hall.log.list w.hall.moment (added w.hall.post (write_of client line)) w.hall.seals w.genuine).hall refl;
-      served = rw none (λ n m honest. none_counted n m);
-      genuine = genuine;
-      ends_with =
-          let logged = (r.own (opens_busy seat.line.stage opens)).logged in
-          later_end_pair (later_moved (with_line seat line) w.hall.seals w.genuine (posting_write room line up) (logging_none w client.number) (λ t s e. e)) seat.operation refl logged
-          (holds.log.each seat.operation logged).began_by found;
-    }
+    sends : {writes : Bool} (configuration : Configuration) (stage : Stage) (pair : Pair) → is_open seat.line.stage ≡ true → Genuine kind w pair → EndPair w pair seat.operation writes
+        → SendingRule kind (asked_world w client seat (asked_line seat configuration stage pair) (write_of client (asked_line seat configuration stage pair))) client.number (asked_line seat configuration stage pair) seat.operation writes
+    sends configuration stage pair opens genuine found =
+        let line = asked_line seat configuration stage pair in
+        let logged = (r.own (opens_busy seat.line.stage opens)).logged in
+        record {
+          asked = write_posted room line refl (asked_world w client seat line (write_of client line)).hall refl;
+          served = λ n m honest. none_counted n m;
+          genuine = genuine;
+          ends_with = later_end_pair (later_moved (with_line seat line) w.hall.seals w.genuine (posting_write room line refl) (logging_none w client.number) (λ t s e. e)) seat.operation refl logged
+              (holds.log.each seat.operation logged).began_by found;
+        }
 
     -- the read or write reads again
-    pub keeps_reread : (line : Line) → line.stage ≡ Reading → line.round ≡ seat.line.round + 1 → line.counted.0 ≡ 0 → line.last_count ≡ seat.line.last_count → line.word ≡ seat.line.word
-        → KnownConfiguration w.hall line.configuration → (seat.line.stage ≡ Reading) ⊎ (seat.line.stage ≡ WritingBack)
-        → Holds kind sealed (moved w client.number (with_line seat line) w.hall.log.list w.hall.moment (added w.hall.post (read_of client line)) w.hall.seals w.genuine)
+    pub keeps_reread : (configuration : Configuration) → KnownConfiguration w.hall configuration → (seat.line.stage ≡ Reading) ⊎ (seat.line.stage ≡ WritingBack)
+        → Holds kind sealed (asked_world w client seat (asked_line seat configuration Reading no_pair) (read_of client (asked_line seat configuration Reading no_pair)))
     unfolding history
-    keeps_reread line is up none last word known at =
-        step_keeps holds (client_low client) within (with_line seat line) (posting_read room line up)
-        (seat_in (base_asked line up last word none known (⊎_elim (ap is_open) (ap is_open) at) (read_of client line) (posting_read room line up)) is
+    keeps_reread configuration known at =
+        let line = asked_line seat configuration Reading no_pair in
+        step_keeps holds (client_low client) within (with_line seat line) (posting_read room line refl)
+        (seat_in (base_asked configuration Reading no_pair known (⊎_elim (ap is_open) (ap is_open) at) (read_of client line) (posting_read room line refl)) refl
         (record {
           read_asked = record {
             newer = [];
             read = read_of client line;
             older = history w.hall;
             splits = reverse-append w.hall.post.list (read_of client line ∷ []);
-            asked = read_shape room line up;
+            asked = read_shape room line refl;
             before = λ k o. (holds.log.each k o.logged).settled o.over;
             unstamped = ⊎_elim (λ a. (in_stage {s = Reading} r a).unstamped) (λ a e. absurd (both_ways true (sym e ∙ (in_stage {s = WritingBack} r a).writes_is) refl)) at;
             seal_left = ⊎_elim (λ a. (in_stage {s = Reading} r a).seal_left) (λ a e. absurd (both_ways true (sym e ∙ (in_stage {s = WritingBack} r a).writes_is) refl)) at;
           };
-          answered = rw none (λ n m honest. none_counted n m);
-          agreed = rw none (λ agree n m honest. none_counted n m);
-          highest = λ some. absurd (some none);
-          genuine = λ some. absurd (some none);
+          answered = λ n m honest. none_counted n m;
+          agreed = λ agree n m honest. none_counted n m;
+          highest = λ some. absurd (some refl);
+          genuine = λ some. absurd (some refl);
         }))
 
     -- the write sends its pair again
-    pub keeps_rewrite : (line : Line) → line.stage ≡ Writing → line.round ≡ seat.line.round + 1 → line.counted.0 ≡ 0 → line.last_count ≡ seat.line.last_count → line.word ≡ seat.line.word
-        → line.highest ≡ seat.line.highest → KnownConfiguration w.hall line.configuration → seat.line.stage ≡ Writing
-        → Holds kind sealed (moved w client.number (with_line seat line) w.hall.log.list w.hall.moment (added w.hall.post (write_of client line)) w.hall.seals w.genuine)
-    keeps_rewrite line is up none last word same known at =
-        step_keeps holds (client_low client) within (with_line seat line) (posting_write room line up)
-        (seat_in (base_asked line up last word none known (ap is_open at) (write_of client line) (posting_write room line up)) is
-        (sends line up none (ap is_open at) (subst (Genuine kind w) (sym same) (in_stage r at).genuine) (subst (λ p. EndPair w p seat.operation true) (sym same) (in_stage r at).ends_with)))
+    pub keeps_rewrite : (configuration : Configuration) → KnownConfiguration w.hall configuration → seat.line.stage ≡ Writing
+        → Holds kind sealed (asked_world w client seat (asked_line seat configuration Writing seat.line.highest) (write_of client (asked_line seat configuration Writing seat.line.highest)))
+    keeps_rewrite configuration known at =
+        let line = asked_line seat configuration Writing seat.line.highest in
+        step_keeps holds (client_low client) within (with_line seat line) (posting_write room line refl)
+        (seat_in (base_asked configuration Writing seat.line.highest known (ap is_open at) (write_of client line) (posting_write room line refl)) refl
+        (sends configuration Writing seat.line.highest (ap is_open at) (in_stage r at).genuine (in_stage r at).ends_with))
 
     -- the read writes back what it has found
-    pub keeps_back : (line : Line) → line.stage ≡ WritingBack → line.round ≡ seat.line.round + 1 → line.counted.0 ≡ 0 → line.last_count ≡ seat.line.last_count → line.word ≡ seat.line.word
-        → line.configuration ≡ seat.line.configuration → seat.line.stage ≡ Reading → Genuine kind w line.highest → EndPair w line.highest seat.operation false
-        → Holds kind sealed (moved w client.number (with_line seat line) w.hall.log.list w.hall.moment (added w.hall.post (write_of client line)) w.hall.seals w.genuine)
-    keeps_back line is up none last word same at genuine found =
-        step_keeps holds (client_low client) within (with_line seat line) (posting_write room line up)
-        (seat_in (base_asked line up last word none (subst (KnownConfiguration w.hall) (sym same) r.configuration) (ap is_open at) (write_of client line) (posting_write room line up)) is
-        (sends line up none (ap is_open at) genuine found))
+    pub keeps_back : (pair : Pair) → seat.line.stage ≡ Reading → Genuine kind w pair → EndPair w pair seat.operation false
+        → Holds kind sealed (asked_world w client seat (asked_line seat seat.line.configuration WritingBack pair) (write_of client (asked_line seat seat.line.configuration WritingBack pair)))
+    keeps_back pair at genuine found =
+        let line = asked_line seat seat.line.configuration WritingBack pair in
+        step_keeps holds (client_low client) within (with_line seat line) (posting_write room line refl)
+        (seat_in (base_asked seat.line.configuration WritingBack pair r.configuration (ap is_open at) (write_of client line) (posting_write room line refl)) refl
+        (sends seat.line.configuration WritingBack pair (ap is_open at) genuine found))

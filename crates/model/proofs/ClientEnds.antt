@@ -67,9 +67,7 @@ module _ {kind : ℕ} {sealed : List Text} {w : World} (holds : Holds kind seale
     step = record {
       logged = own.logged;
       own = own.client;
-      client = refl;
-      writes = refl;
-      began = refl;
+      kept = refl;
       unended = (r.opens f.opens).unended;
       stamp = λ st. sym (its_pair st.writes);
       moments = omega arith;

@@ -174,7 +174,7 @@ module _ {kind : ℕ} {sealed : List Text} {w : World} (holds : Holds kind seale
       (let line = backward (heard (line_of w client) (entry_of w.hall n) from) in
       let f = pair_closes holds small unforged n lt client.number (pair_to h) (seat_of w.hall client.number) own_rule from h large in
       quiet_kept w client.number line kind sealed (Some (write_of client line)) refl (ap (λ s. is_stamping s WritingBack) h.stage)
-      (keeps_back holds client within (seat_of w.hall client.number) own_rule room line refl refl refl refl refl refl h.stage f.genuine (found_ends f ((own_rule.own (ap is_idle h.stage)).reads reads))))
+      (keeps_back holds client within (seat_of w.hall client.number) own_rule room line.highest h.stage f.genuine (found_ends f ((own_rule.own (ap is_idle h.stage)).reads reads))))
   by_move turn (takes_stamp from word h large to_write is) = subst (KeptTurn kind sealed w client) (sym is) (sealing (eqb (w.hall.seals client.number) 0) from word h large to_write)
   by_move turn (counts_ack from h few is) = subst (KeptTurn kind sealed w client) (sym is)
       (quiet_kept w client.number (counting (line_of w client) from) kind sealed None (same_over (line_of w client).stage) (same_stamping (line_of w client).stage)
@@ -191,12 +191,12 @@ module _ {kind : ℕ} {sealed : List Text} {w : World} (holds : Holds kind seale
   by_move turn (reads_again h at is) = subst (KeptTurn kind sealed w client) (sym is)
       (let line = reread (moved_on (line_of w client) (entry_of w.hall n)) in
       quiet_kept w client.number line kind sealed (Some (read_of client line)) refl (not_to_reading (line_of w client).stage)
-      (keeps_reread holds client within (seat_of w.hall client.number) own_rule room line refl refl refl refl refl
+      (keeps_reread holds client within (seat_of w.hall client.number) own_rule room line.configuration
       (known_handed holds small unforged n lt client within (seat_of w.hall client.number) own_rule h) at))
   by_move turn (writes_again h at is) = subst (KeptTurn kind sealed w client) (sym is)
       (let line = rewritten (moved_on (line_of w client) (entry_of w.hall n)) in
       quiet_kept w client.number line kind sealed (Some (write_of client line)) refl (ap (λ s. is_stamping s Writing) at)
-      (keeps_rewrite holds client within (seat_of w.hall client.number) own_rule room line refl refl refl refl refl refl
+      (keeps_rewrite holds client within (seat_of w.hall client.number) own_rule room line.configuration
       (known_handed holds small unforged n lt client within (seat_of w.hall client.number) own_rule h) at))
   by_move turn (replies k is) = subst (KeptTurn kind sealed w client) (sym is)
       (quiet_kept w client.number (line_of w client) kind sealed (Some (config_entry client.number (line_of w client).configuration)) (same_over (line_of w client).stage) (same_stamping (line_of w client).stage)

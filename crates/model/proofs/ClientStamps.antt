@@ -82,9 +82,7 @@ module _ {kind : ℕ} {sealed : List Text} {w : World} (holds : Holds kind seale
     step = record {
       logged = own.logged;
       own = own.client;
-      client = refl;
-      writes = refl;
-      began = refl;
+      kept = refl;
       unended = unended;
       stamp = λ st. absurd (omega (arith, st.stamped, f.unstamped));
       moments = omega (arith, unended);

@@ -1,8 +1,6 @@
 -- What a call does to the log: nothing begins or ends, or one operation begins, or one ends.
 -- Told from the calls' definitions, in a world that meets the rules.
 use Rattle.std.proofs.Common.{◌≡◌, ℕ, ◌+◌, ◌-◌, ◌<◌, ◌≤◌, Bool, true, false, cond, List, length, get_or, set, Some, None, Option, sym, refl, ap, ◌∙◌, subst, arith, length-append, length-set, get_or-set_other, get_or-set_same}
-use native.Mathlib.Decide.{ℕ_discrete, dec_lt}
-use Rattle.std.proofs.lemmas.List.{get_or_past}
 use Rattle.kinds.specs.declared.word.Word.{Word}
 use Rattle.wire.specs.declared.entry.Entry.{Entry}
 use Rattle.wire.specs.declared.pair.Pair.{Pair}
@@ -23,8 +21,7 @@ use Rattle.model.specs.Delivering.{client_moves, entry_of, has_ended, logged}
 use Rattle.model.proofs.Effects.{Effect, stands, issues, starts, client_steps, replica_steps, calls_off, collects_it, lodges, redeems, meddles, BeginCall, answer_is, hall_is, effect_of}
 use Rattle.model.proofs.ClientEvents.{turned, LineChange, unchanged, stamps_now, ends_now, line_change}
 use Rattle.model.proofs.Invariants.{OwnRule, SeatRule, Holds}
-use Rattle.model.proofs.Posts.{before_end, at_end}
-use Rattle.model.proofs.SlipKeeps.{seat_same}
+use Rattle.model.proofs.Posts.{before_end, at_end, set_keeps, seat_same}
 use Rattle.model.proofs.StageTests.{opens_busy}
 
 -- nothing began or ended
@@ -116,20 +113,6 @@ kept_log h h' rules marked log moment = record {
 pub same_log : (h : Hall) → SameLog h h
 same_log h = kept_log h h refl refl refl refl
 
--- a table with another at a place of it
-set_at : (xs : List Operation) (k j : ℕ) (x : Operation) → (j ≡ k → ⊥) → get_or (set xs k x) j no_operation ≡ get_or xs j no_operation
-set_at xs k j x ne = get_or-set_other xs k j x no_operation ne
-
--- what was put at place k, as far as one looks at what it keeps of the old
-set_keeps : {X : Type 0} (f : Operation → X) (xs : List Operation) (k j : ℕ) (x : Operation) → (j ≡ k → f x ≡ f (get_or xs k no_operation)) → f (get_or (set xs k x) j no_operation) ≡ f (get_or xs j no_operation)
-set_keeps f xs k j x e = by_place (ℕ_discrete j k) (dec_lt k (length xs))
-  where
-    by_place : Dec (j ≡ k) → Dec (k < length xs) → f (get_or (set xs k x) j no_operation) ≡ f (get_or xs j no_operation)
-    by_place (no ne) d = ap f (set_at xs k j x ne)
-    by_place (yes same) (yes lt) = ap (λ m. f (get_or (set xs k x) m no_operation)) same ∙ ap f (get_or-set_same xs k x no_operation lt) ∙ e same ∙ ap (λ m. f (get_or xs m no_operation)) (sym same)
-    by_place (yes same) (no past) =
-        ap f (get_or_past (set xs k x) j no_operation (rw (length-set xs k x) (omega arith))) ∙ sym (ap f (get_or_past xs j no_operation (omega arith)))
-
 module _ (kind : ℕ) (sealed : List Text) (w : World) (holds : Holds kind sealed w) (client : Client) (low : 1 ≤ client.number) (high : client.number ≤ w.hall.rules.clients)
     (line : Line) (seals : ℕ → ℕ) where
   abbrev seat : Seat
@@ -180,7 +163,7 @@ module _ (kind : ℕ) (sealed : List Text) (w : World) (holds : Holds kind seale
     same_length = length-set w.hall.log.list _ _;
     next_moment = ap (λ b. cond b (w.hall.moment + 1) w.hall.moment) ended;
     logged = own_op.logged;
-    others = λ j ne. set_at w.hall.log.list seat.operation j _ ne;
+    others = λ j ne. get_or-set_other w.hall.log.list seat.operation j _ no_operation ne;
     unended = (mine.opens busy).unended;
     now = ap (λ o. end_of o) put;
     by = own_op.client;

@@ -35,7 +35,7 @@ use Rattle.halls.specs.declared.seat.Seat.{Seat}
 use Rattle.model.specs.Tables.{added}
 use Rattle.model.specs.Halls.{Hall, World, no_entry, no_configuration, no_operation, operation_of, with_post, end_of}
 use Rattle.model.specs.Delivering.{entry_of}
-use Rattle.model.proofs.Invariants.{views, issued_as, history, stamp_number, KnownConfiguration, StampedWrite, KnownPair, KnownText, Genuine, CardRule, AnswerRule, OverBefore, SettledSomewhere, ReadingRule, EndPair, SendingRule, OverRule, OpenRule, OwnRule, InStage, SeatRule, LogRule, Later}
+use Rattle.model.proofs.Invariants.{views, issued_as, history, stamp_number, KnownConfiguration, StampedWrite, KnownPair, KnownText, Genuine, CardRule, AnswerRule, OverBefore, SettledSomewhere, ReadingRule, EndPair, SendingRule, OverRule, OpenRule, OwnRule, InStage, SeatRule, LogRule, Later, CardOf}
 use Rattle.model.proofs.Invariants.KnownPair.{the_opening, a_write}
 use Rattle.model.proofs.Invariants.KnownText.{of_configuration, of_write}
 use Rattle.model.proofs.StageTests.{opens_busy}
@@ -130,6 +130,10 @@ pub record QuietReplica (q : ℕ) (x : Entry) : Type 0 where
   pub not_ack : x.sender ≡ 100 + q → x.kind ≡ 5 → ⊥
   pub not_stock : x.sender ≡ 100 + q → x.kind ≡ 6 → ⊥
 
+-- what a client or the source posts is none
+pub quiet_below : {q : ℕ} {x : Entry} → x.sender < 100 → QuietReplica q x
+quiet_below low = record { not_pair = λ e k. omega arith; not_ack = λ e k. omega arith; not_stock = λ e k. omega arith }
+
 -- nothing among the entries asks in the name of client c
 pub record QuietClient (c : ℕ) (x : Entry) : Type 0 where
   pub not_read : x.sender ≡ c → x.kind ≡ 1 → ⊥
@@ -145,26 +149,50 @@ old_served (x ∷ new) (next quiet rest) (here (by_pair p)) = absurd (quiet.not_
 old_served (x ∷ new) (next quiet rest) (here (by_ack p asked)) = absurd (quiet.not_ack p.sender p.kind)
 old_served (x ∷ new) (next quiet rest) (there s) = old_served new rest s
 
-pub later_card : {w w' : World} (kind q : ℕ) (card : Card) (l : Later w w') → Everywhere (λ x below. QuietReplica q x) l.posted → CardRule kind w q card → CardRule kind w' q card
-later_card {w} {w'} kind q card l quiet rule = record {
-  issued = omega (arith, rule.issued, l.issued);
-  set = rule.set ∙ sym (set_of card.epoch rule.issued);
-  previous = λ a e. rule.previous a e ∙ sym (set_of a (omega (arith, rule.issued)));
-  served = λ {e} {t} s. rule.served (old_served l.posted quiet (subst (λ h. Served h q e t) (later_history l) s));
-  stocked = λ {r} {a} {s} k. rule.stocked (old_posted l.posted (λ x still p. still.not_stock p.sender p.kind) quiet (subst (λ h. Stocked h q r a s) (later_history l) k));
-  left = λ e lt m. kept (rule.left e lt (ap (λ s. member s q) (sym (set_of e (omega (arith, rule.issued)))) ∙ m));
-  ready = λ e. kept (rule.ready e);
-  heard = λ n a m e. stocked_to_grows (later_past l) (rule.heard n a m e);
-  heard_within = λ a e. subst (Within card.heard.0) (sym (set_of a (omega (arith, rule.issued)))) (rule.heard_within a e);
-  known = later_pair l card.pair rule.known;
-  genuine = later_genuine kind l card.pair rule.genuine;
+-- a later world, in which it has served nothing higher and given no stock of its present epoch
+pub card_kept : {w w' : World} {kind q : ℕ} {card : Card} (l : Later w w')
+    → ((e t : ℕ) → Served (history w'.hall) q e t → t ≤ stamp_number card.pair)
+    → ((r a s : ℕ) → Stocked (history w'.hall) q r a s → a < card.epoch)
+    → CardRule kind w q card → CardRule kind w' q card
+card_kept {w} {w'} {kind} {q} {card} l serves stocks r = record {
+  issued = more r.issued;
+  set = r.set ∙ sym (ap (λ x. x.set.0) (l.roll card.epoch r.issued));
+  previous = λ a e. r.previous a e ∙ sym (ap (λ x. x.set.0) (l.roll a (earlier a e)));
+  served = λ s. serves _ _ s;
+  stocked = λ s. stocks _ _ _ s;
+  left = λ e lt m. grown (r.left e lt (sym (ap (λ x. member x.set.0 q) (l.roll e (under e lt))) ∙ m));
+  ready = λ y. grown (r.ready y);
+  heard = λ n a m e. stocked_to_grows (later_past l) (r.heard n a m e);
+  heard_within = λ a e. subst (λ x. Within card.heard.0 x.set.0) (sym (l.roll a (earlier a e))) (r.heard_within a e);
+  known = later_pair l card.pair r.known;
+  genuine = later_genuine kind l card.pair r.genuine;
 }
   where
-    set_of : (e : ℕ) → e < length w.hall.roll.list → (issued_as w'.hall e).set.0 ≡ (issued_as w.hall e).set.0
-    set_of e lt = (later_views l).sets e lt
+    more : card.epoch < length w.hall.roll.list → card.epoch < length w'.hall.roll.list
+    more lt = omega (arith, l.issued)
 
-    kept : {e : ℕ} → Evidence (views w.hall) (history w.hall) q e (stamp_number card.pair) → Evidence (views w'.hall) (history w'.hall) q e (stamp_number card.pair)
-    kept k = evidence_extends (later_views l) (evidence_grows (later_past l) k)
+    earlier : (a : ℕ) → card.epoch ≡ a + 1 → a < length w.hall.roll.list
+    earlier a e = omega (arith, r.issued)
+
+    under : (e : ℕ) → e < card.epoch → e < length w.hall.roll.list
+    under e lt = omega (arith, r.issued)
+
+    grown : {e : ℕ} → Evidence (views w.hall) (history w.hall) q e (stamp_number card.pair) → Evidence (views w'.hall) (history w'.hall) q e (stamp_number card.pair)
+    grown ev = evidence_extends (later_views l) (evidence_grows (later_past l) ev)
+
+-- a card whose replica has answered nothing new
+pub later_card : {w w' : World} (kind q : ℕ) (card : Card) (l : Later w w') → Everywhere (λ x below. QuietReplica q x) l.posted → CardRule kind w q card → CardRule kind w' q card
+later_card kind q card l quiet rule = card_kept l
+    (λ e t s. rule.served (old_served l.posted quiet (subst (λ h. Served h q e t) (later_history l) s)))
+    (λ r a s k. rule.stocked (old_posted l.posted (λ x still p. still.not_stock p.sender p.kind) quiet (subst (λ h. Stocked h q r a s) (later_history l) k)))
+    rule
+
+pub card_stays : {w w' : World} (kind q : ℕ) (l : Later w w') → w'.hall.place ≡ w.hall.place → Everywhere (λ x below. QuietReplica q x) l.posted → CardOf kind w q → CardOf kind w' q
+card_stays kind q l same quiet c = record {
+  card = c.card;
+  kept = ap (λ place. place q) same ∙ c.kept;
+  rule = λ honest. later_card kind q c.card l quiet (c.rule (honest_before (later_views l) honest));
+}
 
 -- a member of an epoch's set stays one; the set of an epoch that was not issued has none
 pub later_member : {w w' : World} → Later w w' → (e q : ℕ) → member (issued_as w.hall e).set.0 q ≡ true → member (issued_as w'.hall e).set.0 q ≡ true

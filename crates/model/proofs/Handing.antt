@@ -34,10 +34,10 @@ use Rattle.model.proofs.ClientSteps.{client_low}
 use Rattle.model.proofs.Invariants.{ends, SeatRule, Holds}
 use Rattle.model.proofs.Effects.{hall_is}
 use Rattle.model.proofs.Parties.{client_party}
-use Rattle.model.proofs.SlipKeeps.{seat_same}
 use Rattle.model.proofs.Stages.{in_stage}
 use Rattle.model.proofs.SeatTurns.{Onward, next_line}
 use Rattle.model.proofs.Ways.{some_same, either}
+use Rattle.model.proofs.Posts.{seat_same}
 
 -- replica n is counted in a round that goes on
 pub record Counts (before later : Line) (n : ℕ) : Type 0 where

@@ -35,14 +35,17 @@ use Rattle.model.specs.Delivering.{entry_of}
 abbrev pub issued_as : Hall → ℕ → Configuration
 issued_as h e = get_or h.roll.list e no_configuration
 
--- the replica sets of the epochs so far
-abbrev pub views : Hall → Views
-views h = record {
-  faults = h.rules.faults;
-  issued = length h.roll.list;
-  set = λ e. (issued_as h e).set.0;
-  marked = h.marked;
+-- the replica sets of the epochs of a roll
+abbrev pub views_of : Rules → ℕ → List Configuration → Views
+views_of rules marked list = record {
+  faults = rules.faults;
+  issued = length list;
+  set = λ e. (get_or list e no_configuration).set.0;
+  marked = marked;
 }
+
+abbrev pub views : Hall → Views
+views h = views_of h.rules h.marked h.roll.list
 
 -- the posted entries, newest first
 unfoldable pub history : Hall → List Entry
@@ -77,23 +80,29 @@ pub data KnownText (kind : ℕ) (h : Hall) (t : Text) : Type 0 where
 abbrev pub Genuine : ℕ → World → Pair → Type 0
 Genuine kind w p = genuine_pair w.hall.rules kind w.genuine p ≡ true
 
+-- at least one fault, and no more parties than there are numbers for them
+pub record Limited (rules : Rules) : Type 0 where
+  pub faults : 1 ≤ rules.faults
+  pub replicas : rules.replicas ≤ 64
+  pub clients : rules.clients ≤ 32
+
 -- the tables keep their lengths, and these are small
 pub record Sized (h : Hall) : Type 0 where
   pub tables : has_its_tables h ≡ true
-  pub faults : 1 ≤ h.rules.faults
-  pub replicas : h.rules.replicas ≤ 64
-  pub clients : h.rules.clients ≤ 32
+  pub limits : Limited h.rules
+  pub open limits use *
   pub post_limit : places h.post ≤ 4096
   pub log_limit : places h.log ≤ 1024
 
-pub record RollRule (h : Hall) : Type 0 where
-  pub sound : Sound (views h)
-  pub some : 0 < length h.roll.list
-  pub first : (issued_as h 0).set.0 ≡ h.rules.first.0
-  pub epochs : (e : ℕ) → e < length h.roll.list → (issued_as h e).epoch ≡ e
-  pub source : h.source.newest + 1 ≡ length h.roll.list
+-- of a roll, in a hall with these rules and marks
+pub record RollRule (rules : Rules) (marked : ℕ) (list : List Configuration) (newest : ℕ) : Type 0 where
+  pub sound : Sound (views_of rules marked list)
+  pub some : 0 < length list
+  pub first : (get_or list 0 no_configuration).set.0 ≡ rules.first.0
+  pub epochs : (e : ℕ) → e < length list → (get_or list e no_configuration).epoch ≡ e
+  pub source : newest + 1 ≡ length list
   -- every set is one of the hall's replicas
-  pub inside : (e : ℕ) → e < length h.roll.list → (issued_as h e).set.0 < 2 ^ h.rules.replicas
+  pub inside : (e : ℕ) → e < length list → (get_or list e no_configuration).set.0 < 2 ^ rules.replicas
 
 -- of the card of an honest replica q
 pub record CardRule (kind : ℕ) (w : World) (q : ℕ) (card : Card) : Type 0 where
@@ -260,7 +269,7 @@ pub record LogRule (w : World) : Type 0 where
 -- all of it; `sealed` are the texts that the calls so far have sealed
 pub record Holds (kind : ℕ) (sealed : List Text) (w : World) : Type 0 where
   pub sized : Sized w.hall
-  pub roll : RollRule w.hall
+  pub roll : RollRule w.hall.rules w.hall.marked w.hall.roll.list w.hall.source.newest
   pub good : Good (views w.hall) (history w.hall)
   pub answers : (n : ℕ) → n < length w.hall.post.list → AnswerRule kind w (entry_of w.hall n)
   pub cards : (q : ℕ) → q < w.hall.rules.replicas → CardOf kind w q

@@ -22,7 +22,7 @@ use Rattle.histories.proofs.Posting.{justified_unruled}
 use Rattle.model.specs.Tables.{is_full, added, places}
 use Rattle.model.specs.Halls.{World, no_configuration, no_entry, seat_of, with_post, with_seals, with_source}
 use Rattle.model.specs.Issuing.{is_right_set, has_too_many_marked}
-use Rattle.model.proofs.Frames.{history_added, later_views, later_card, seat_stays, later_text}
+use Rattle.model.proofs.Frames.{history_added, later_views, card_stays, quiet_below, seat_stays, later_text}
 use Rattle.model.proofs.Invariants.{views, history, issued_as, Sized, RollRule, KnownText, of_configuration, Holds, Later}
 use Rattle.model.proofs.Opening.{right_below}
 use Rattle.model.proofs.Posts.{before_end, at_end, post_added, log_stays, places_added, answers_posted, no_answer, log_later}
@@ -82,7 +82,7 @@ module _ (kind : ℕ) (sealed : List Text) (w : World) (holds : Holds kind seale
       marked e (inr new) = subst (λ m. ones (bit_and (get_or (w.hall.roll.list ++ (c ∷ [])) m no_configuration).set.0 w.hall.marked) ≤ w.hall.rules.faults) new
           (subst (λ z. ones (bit_and z.set.0 w.hall.marked) ≤ w.hall.rules.faults) (sym (at_end w.hall.roll.list c no_configuration)) (leb-true _ _ (not-false _ few)))
 
-  roll_issued : RollRule (issue_world w source c seals open_place genuine given).hall
+  roll_issued : RollRule w.hall.rules w.hall.marked (w.hall.roll.list ++ (c ∷ [])) source.newest
   roll_issued = record {
     sound = sound_issued;
     some = simp length-append (omega arith);
@@ -104,14 +104,8 @@ module _ (kind : ℕ) (sealed : List Text) (w : World) (holds : Holds kind seale
 
   sized_issued : Sized (issue_world w source c seals open_place genuine given).hall
   sized_issued = let s = holds.sized in record {
-    tables = ap (λ p. (eqb p w.hall.lengths.post && eqb (places w.hall.log) w.hall.lengths.log)
-        && (eqb (places (added w.hall.roll c)) w.hall.lengths.roll && eqb (length w.hall.seats) w.hall.rules.clients)) (places_added w.hall.post (config_entry 0 c) post_room)
-        ∙ ap (λ p. (eqb (places w.hall.post) w.hall.lengths.post && eqb (places w.hall.log) w.hall.lengths.log)
-        && (eqb p w.hall.lengths.roll && eqb (length w.hall.seats) w.hall.rules.clients)) (places_added w.hall.roll c roll_room)
-        ∙ s.tables;
-    faults = s.faults;
-    replicas = s.replicas;
-    clients = s.clients;
+    tables = rw (places_added w.hall.post (config_entry 0 c) post_room, places_added w.hall.roll c roll_room) s.tables;
+    limits = s.limits;
     post_limit = rw (places_added w.hall.post (config_entry 0 c) post_room) s.post_limit;
     log_limit = s.log_limit;
   }
@@ -125,11 +119,7 @@ module _ (kind : ℕ) (sealed : List Text) (w : World) (holds : Holds kind seale
     good = subst (λ h. Good (views (issue_world w source c seals open_place genuine given).hall) h) (sym (history_added w.hall (config_entry 0 c)))
         (next (justified_unruled (omega arith)) (good_extends (later_views later_issued) holds.good));
     answers = answers_posted kind w (issue_world w source c seals open_place genuine given) (config_entry 0 c) later_issued refl (no_answer kind _ _ (λ e. omega arith) (λ e. omega arith)) holds.answers;
-    cards = λ q lt. let mine = holds.cards q lt in record {
-      card = mine.card;
-      kept = mine.kept;
-      rule = λ honest. later_card kind q mine.card later_issued (next (record { not_pair = λ e k. omega arith; not_ack = λ e k. omega arith; not_stock = λ e k. omega arith }) done) (mine.rule (honest_before (later_views later_issued) honest));
-    };
+    cards = λ q lt. card_stays kind q later_issued refl (next (quiet_below (omega arith)) done) (holds.cards q lt);
     seats = λ p low high. seat_stays kind p (seat_of w.hall p) later_issued refl (next (record { not_read = λ e k. omega arith; not_write = λ e k. omega arith }) done) holds.log
         (le_of_eq (sym (kept p low))) (holds.seats p low high);
     log = log_later w (issue_world w source c seals open_place genuine given) later_issued refl refl holds.log;

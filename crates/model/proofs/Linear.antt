@@ -14,12 +14,12 @@ use Rattle.model.specs.Halls.{Hall, World, Kind, operation_of, end_of}
 use Rattle.model.specs.Order.{Operation, Ended, Finished, Writes, value_written, newer, held_after, InOrder, Linearizable}
 use Rattle.model.specs.Runs.{Lawful, Opened, Run, Unforged}
 use Rattle.model.proofs.Effects.{BeginCall, by_read, by_write}
-use Rattle.model.proofs.Events.{EndedLog, begins_slip, slips}
+use Rattle.model.proofs.Events.{EndedLog, begins_slip}
 use Rattle.model.proofs.Images.{split_from, map_member, comes_from, below, IsBelow, below_only, below_all, below_distinct}
 use Rattle.model.proofs.Growing.{Grows, ended_logged}
 use Rattle.model.proofs.Invariants.{stamp_number, StampedWrite, KnownPair, the_opening, a_write as of_a_write, OverBefore, Holds}
 use Rattle.model.proofs.RunKeeps.{sealed_at, holds_at}
-use Rattle.model.proofs.Trace.{grows, StartOf, started, operation_started, Told, told, found_start, found_end, opening_stays, end_client, ended_valued, ended_told, end_seen}
+use Rattle.model.proofs.Trace.{slips_there, grows, StartOf, started, operation_started, Told, told, found_start, found_end, opening_stays, end_client, ended_valued, ended_told, end_seen}
 use Rattle.wire.specs.declared.text.Text.{Text}
 use Rattle.model.proofs.Ways.{both, some_same, not_some}
 
@@ -127,12 +127,8 @@ module _ {V : Type 0} (kind : Kind V) (v : V) (start : World) (lawful : Lawful k
   position_is zero o c k word le lt s = absurd (omega arith)
   position_is (suc i) o c k word le lt s = by_place (λ less. position_is i o c k word (omega arith) less s) (ℕ_discrete o i)
     where
-      slip_there : BeginCall kind (run.call o) c word → begins_slip (run.call o) (run.answer o) ≡ true
-      slip_there (by_read call none) = ap (λ x. begins_slip x (run.answer o)) call ∙ ap slips s.answer
-      slip_there (by_write u call some) = ap (λ x. begins_slip x (run.answer o)) call ∙ ap slips s.answer
-
       at_o : (eqb (length (run.world o).hall.log.list) k && begins_slip (run.call o) (run.answer o)) ≡ true
-      at_o = rw (eq-eqb (length (run.world o).hall.log.list) k (sym s.place), slip_there s.call)
+      at_o = rw (eq-eqb (length (run.world o).hall.log.list) k (sym s.place), slips_there run (operation_started kind v start lawful opened run unforged o c k word s))
 
       by_place : (o < i → position i k ≡ o) → Dec (o ≡ i) → cond (eqb (length (run.world i).hall.log.list) k && begins_slip (run.call i) (run.answer i)) i (position i k) ≡ o
       by_place go (yes e) = ap (λ b. cond b i (position i k)) (subst (λ m. (eqb (length (run.world m).hall.log.list) k && begins_slip (run.call m) (run.answer m)) ≡ true) e at_o) ∙ sym e

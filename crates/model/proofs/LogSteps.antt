@@ -12,7 +12,7 @@ use Rattle.model.specs.Halls.{World, no_operation, operation_of, end_of}
 use Rattle.model.proofs.Frames.{later_over}
 use Rattle.model.proofs.Invariants.{stamp_number, StampedWrite, OverBefore, OperationRule, LogRule, Later, ends}
 use Rattle.model.proofs.Moved.{moved, Logging}
-use Rattle.model.proofs.Posts.{operation_later}
+use Rattle.model.proofs.Posts.{operation_later, set_keeps}
 
 -- how many have ended, with another operation at place k
 pub ends_set : (ops : List Operation) (k : ℕ) (op : Operation) → k < length ops → ends (set ops k op) + min 1 (end_of (get_or ops k no_operation)) ≡ ends ops + min 1 (end_of op)
@@ -25,9 +25,7 @@ ends_set (x ∷ ops) (suc k) op lt = omega (arith, ends_set ops k op (omega arit
 pub record OpStep (w : World) (c k : ℕ) (op : Operation) (moment : ℕ) : Type 0 where
   pub logged : k < length w.hall.log.list
   pub own : (operation_of w.hall k).client ≡ c
-  pub client : op.client ≡ (operation_of w.hall k).client
-  pub writes : op.writes ≡ (operation_of w.hall k).writes
-  pub began : op.began ≡ (operation_of w.hall k).began
+  pub kept : op ≡ record (operation_of w.hall k) { ended = op.ended; pair = op.pair }
   pub unended : end_of (operation_of w.hall k) ≡ 0
   pub stamp : StampedWrite w.hall k → op.pair ≡ (operation_of w.hall k).pair
   pub moments : moment ≡ w.hall.moment + min 1 (end_of op)
@@ -40,23 +38,15 @@ module _ {w : World} {c k : ℕ} {op : Operation} {moment : ℕ} (s : OpStep w c
   pub set_there : (j : ℕ) → (j ≡ k → ⊥) → get_or (set w.hall.log.list k op) j no_operation ≡ operation_of w.hall j
   set_there j ne = get_or-set_other w.hall.log.list k j op no_operation ne
 
-  -- what is the same of both is the same at each place
-  kept : {T : Type 0} (f : Operation → T) → f op ≡ f (operation_of w.hall k) → (j : ℕ) → f (get_or (set w.hall.log.list k op) j no_operation) ≡ f (operation_of w.hall j)
-  kept f same j = ⊎_elim
-      (λ e. subst (λ i. f (get_or (set w.hall.log.list k op) i no_operation) ≡ f (operation_of w.hall i)) (sym e) (ap f set_here ∙ same))
-      (λ ne. ap f (set_there j ne)) (cases_eq j k)
-
   pub logging_set : Logging w c (set w.hall.log.list k op) moment
   logging_set = record {
     same_length = length-set w.hall.log.list k op;
     others = λ j other. set_there j (λ e. other (ap (λ i. (operation_of w.hall i).client) e ∙ s.own));
     moments = omega (arith, s.moments);
-    client = kept (λ x. x.client) s.client;
-    writes = kept (λ x. x.writes) s.writes;
-    began = kept (λ x. x.began) s.began;
-    stamp = λ j st. ⊎_elim
-        (λ e. ap (λ i. (get_or (set w.hall.log.list k op) i no_operation).pair) e ∙ ap (λ x. x.pair) set_here ∙ s.stamp (subst (StampedWrite w.hall) e st) ∙ ap (λ i. (operation_of w.hall i).pair) (sym e))
-        (λ ne. ap (λ x. x.pair) (set_there j ne)) (cases_eq j k);
+    client = λ j. set_keeps (λ x. x.client) w.hall.log.list k j op (λ e. ap (λ x. x.client) s.kept);
+    writes = λ j. set_keeps (λ x. x.writes) w.hall.log.list k j op (λ e. ap (λ x. x.writes) s.kept);
+    began = λ j. set_keeps (λ x. x.began) w.hall.log.list k j op (λ e. ap (λ x. x.began) s.kept);
+    stamp = λ j st. set_keeps (λ x. x.pair) w.hall.log.list k j op (λ e. s.stamp (subst (StampedWrite w.hall) e st));
     ended = λ j o. set_there j (λ e. over j o e);
     ending = λ j z o. ⊎_elim (λ e. at_k j e o) (λ ne. absurd (elsewhere j ne z o)) (cases_eq j k);
   }

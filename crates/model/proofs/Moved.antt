@@ -16,9 +16,9 @@ use Rattle.halls.specs.declared.seat.Seat.{Seat}
 use Rattle.model.specs.Tables.{Table, is_full, added, places}
 use Rattle.model.specs.Halls.{Hall, World, no_entry, no_operation, no_seat, has_its_tables, seat_of, operation_of, end_of}
 use Rattle.model.specs.Delivering.{entry_of}
-use Rattle.model.proofs.Frames.{later_answer, later_card, later_seat, QuietReplica, QuietClient}
+use Rattle.model.proofs.Frames.{later_answer, later_seat, QuietReplica, QuietClient, card_stays, quiet_below}
 use Rattle.model.proofs.Invariants.{views, history, StampedWrite, Sized, KnownText, AnswerRule, SeatRule, LogRule, Holds, PostGrows, Later}
-use Rattle.model.proofs.Posts.{posted_in, at_end, roll_stays, post_stays, post_added, sized_posted}
+use Rattle.model.proofs.Posts.{at_end, roll_stays, post_stays, post_added, places_added, seats_with}
 
 abbrev pub moved : World → ℕ → Seat → List Operation → ℕ → Table Entry → (ℕ → ℕ) → (Text → Seal → Bool) → World
 moved w c seat ops moment table seals genuine = record w {
@@ -68,11 +68,11 @@ posting_one {kind} {sealed} {w} c round x holds room small by low justified = re
   grows = post_added w.hall x;
   new_entries = λ n new lt. subst (λ (y : Entry). y.sender < 100) (last n new lt) (omega arith);
   good = next justified holds.good;
-  quiet_replicas = λ q. next (record { not_pair = λ e k. omega arith; not_ack = λ e k. omega arith; not_stock = λ e k. omega arith }) done;
+  quiet_replicas = λ q. next (quiet_below (omega arith)) done;
   quiet_clients = λ d ne. next (record { not_read = λ e k. ne (omega arith); not_write = λ e k. ne (omega arith) }) done;
   reads = only_reads;
   writes = only_writes;
-  room = same;
+  room = places_added w.hall.post x room;
 }
   where
     last : (n : ℕ) → length w.hall.post.list ≤ n → n < length (added w.hall.post x).list → x ≡ get_or (w.hall.post.list ++ (x ∷ [])) n no_entry
@@ -88,18 +88,6 @@ posting_one {kind} {sealed} {w} c round x holds room small by low justified = re
     only_writes : {k e s : ℕ} → Posted (WriteEntry c k e s) (x ∷ []) → k ≤ round
     only_writes (here r) = omega (arith, r.round)
     only_writes (there p) = elim p [ ]
-
-    limit : Sized (posted_in w x).hall
-    limit = sized_posted w x room holds.sized
-
-    first_of : (h : Hall) → has_its_tables h ≡ true → places h.post ≡ h.lengths.post
-    first_of h t =
-        let front = eqb (places h.post) h.lengths.post && eqb (places h.log) h.lengths.log in
-        let back = eqb (places h.roll) h.lengths.roll && eqb (length h.seats) h.rules.clients in
-        eqb-true (places h.post) h.lengths.post (and_parts (eqb (places h.post) h.lengths.post) (eqb (places h.log) h.lengths.log) (and_parts front back t).0).0
-
-    same : places (added w.hall.post x) ≡ places w.hall.post
-    same = first_of (posted_in w x).hall limit.tables ∙ sym (first_of w.hall holds.sized.tables)
 
 -- the log stays as it is but for an operation of client c, of which what was said stands
 pub record Logging (w : World) (c : ℕ) (ops : List Operation) (moment : ℕ) : Type 0 where
@@ -146,22 +134,13 @@ later_moved {w = w} seat seals genuine p g grows = record {
   genuine = grows;
 }
 
--- the seats of a hall are as many as its clients
-pub seats_many : (h : Hall) → has_its_tables h ≡ true → length h.seats ≡ h.rules.clients
-seats_many h t =
-    let front = eqb (places h.post) h.lengths.post && eqb (places h.log) h.lengths.log in
-    let back = eqb (places h.roll) h.lengths.roll && eqb (length h.seats) h.rules.clients in
-    eqb-true (length h.seats) h.rules.clients (and_parts (eqb (places h.roll) h.lengths.roll) (eqb (length h.seats) h.rules.clients) (and_parts front back t).1).1
-
 module _ {kind : ℕ} {sealed : List Text} {w : World} (holds : Holds kind sealed w) {c round : ℕ} (low : 1 ≤ c) (high : c ≤ w.hall.rules.clients)
     (seat : Seat) {ops : List Operation} {moment : ℕ} {table : Table Entry} (seals : ℕ → ℕ) (genuine : Text → Seal → Bool)
     (p : Posting w c round table) (g : Logging w c ops moment) (grows : (t : Text) (s : Seal) → w.genuine t s ≡ true → genuine t s ≡ true) where
   sized_moved : Sized (moved w c seat ops moment table seals genuine).hall
   sized_moved = let s = holds.sized in record {
     tables = rw (p.room, g.same_length, length-set w.hall.seats (c - 1) seat) s.tables;
-    faults = s.faults;
-    replicas = s.replicas;
-    clients = s.clients;
+    limits = s.limits;
     post_limit = rw p.room s.post_limit;
     log_limit = rw g.same_length s.log_limit;
   }
@@ -203,21 +182,11 @@ module _ {kind : ℕ} {sealed : List Text} {w : World} (holds : Holds kind seale
   unfolding later_moved history
   moved_keeps after enough own log texts = record {
     sized = sized_moved;
-    roll = let r = holds.roll in record { sound = r.sound; some = r.some; first = r.first; epochs = r.epochs; source = r.source; inside = r.inside };
+    roll = holds.roll;
     good = subst (Good (views w.hall)) (sym p.past) p.good;
     answers = answers_moved;
-    cards = λ q lt. let k = holds.cards q lt in record { card = k.card; kept = k.kept; rule = λ honest. later_card kind q k.card (later_moved seat seals genuine p g grows) (p.quiet_replicas q) (k.rule honest) };
-    seats = λ d dlow dhigh. ⊎_elim
-        (λ e. subst (λ x. SeatRule kind (moved w c seat ops moment table seals genuine) x (get_or (set w.hall.seats (c - 1) seat) (x - 1) no_seat)) (sym e)
-        (subst (SeatRule kind (moved w c seat ops moment table seals genuine) c) (sym (get_or-set_same w.hall.seats (c - 1) seat no_seat inside)) own))
-        (λ ne. subst (SeatRule kind (moved w c seat ops moment table seals genuine) d) (sym (get_or-set_other w.hall.seats (c - 1) (d - 1) seat no_seat (apart d dlow ne))) (other_seat d dlow dhigh ne (enough d ne)))
-        (cases_eq d c);
+    cards = λ q lt. card_stays kind q (later_moved seat seals genuine p g grows) refl (p.quiet_replicas q) (holds.cards q lt);
+    seats = seats_with c seat holds.sized low high own (λ d dlow dhigh ne. other_seat d dlow dhigh ne (enough d ne));
     log = log;
     texts = texts;
   }
-    where
-      inside : c - 1 < length w.hall.seats
-      inside = omega (arith, seats_many w.hall holds.sized.tables)
-
-      apart : (d : ℕ) → 1 ≤ d → (d ≡ c → ⊥) → d - 1 ≡ c - 1 → ⊥
-      apart d dlow ne e = ne (omega arith)

@@ -121,7 +121,7 @@ module _ {V : Type 0} (kind : Kind V) (v : V) (w : World) (o : Opened kind v w.h
   pub opened_holds : Holds kind.number [] w
   unfolding history ends
   opened_holds = record {
-    sized = record { tables = o.tables; faults = o.faults; replicas = o.replicas; clients = o.clients; post_limit = o.post_limit; log_limit = o.log_limit };
+    sized = record { tables = o.tables; limits = record { faults = o.faults; replicas = o.replicas; clients = o.clients }; post_limit = o.post_limit; log_limit = o.log_limit };
     roll = record {
       sound = sound_first;
       some = omega (arith, one_issued);

@@ -1,10 +1,11 @@
 -- Posting an entry, and putting a card in a store: what each asks for so that all rules still hold.
 -- The lemmas build the world that comes of it.
-use Rattle.std.proofs.Common.{◌≡◌, ℕ, ◌+◌, ◌-◌, ◌<◌, ◌≤◌, false, cond, ◌&&◌, eqb, List, [], ◌∷◌, ◌++◌, length, get_or, Some, Option, sym, refl, ap, ◌∙◌, subst, arith, length-append, eq-eqb, ne_eqb}
+use Rattle.std.proofs.Common.{◌≡◌, ℕ, ◌+◌, ◌-◌, ◌<◌, ◌≤◌, false, cond, ◌&&◌, eqb, List, [], ◌∷◌, ◌++◌, length, get_or, Some, Option, sym, refl, ap, ◌∙◌, subst, arith, length-append, eq-eqb, ne_eqb, set, length-set, get_or-set_other, get_or-set_same, eqb-true}
 use native.Mathlib.Decide.{dec_lt, ℕ_discrete}
 use lib.ListN.{get_or-append}
 use lib.Seq.{get_or-append_seam}
 use borrow.Author.Tests.{clash}
+use Rattle.std.proofs.lemmas.List.{get_or_past}
 use Rattle.wire.specs.declared.entry.Entry.{Entry}
 use Rattle.wire.specs.declared.pair.Seal.{Seal}
 use Rattle.wire.specs.declared.text.Text.{Text}
@@ -15,13 +16,14 @@ use Rattle.histories.specs.Places.{done, next}
 use Rattle.histories.specs.Histories.{Good, Justified}
 use Rattle.histories.proofs.Extension.{settled_extends}
 use Rattle.histories.proofs.Growth.{settled_grows}
+use Rattle.halls.specs.declared.operation.Operation.{Operation}
 use Rattle.halls.specs.declared.seat.Seat.{Seat}
 use Rattle.model.specs.Tables.{Table, is_empty, is_full, tail, added, places}
 use Rattle.model.specs.Halls.{Hall, World, no_entry, no_operation, no_seat, seat_of, operation_of, with_post, with_store}
 use Rattle.model.specs.Delivering.{entry_of}
-use Rattle.model.proofs.Cards.{card_later}
-use Rattle.model.proofs.Frames.{history_added, later_past, later_pair, later_text, later_views, later_answer, seat_stays, QuietClient}
+use Rattle.model.proofs.Frames.{card_kept, history_added, later_past, later_pair, later_text, later_views, later_answer, seat_stays, QuietClient}
 use Rattle.model.proofs.Invariants.{views, history, stamp_number, StampedWrite, OverBefore, Sized, CardRule, CardOf, AnswerRule, OperationRule, SettledSomewhere, SeatRule, LogRule, Holds, RollGrows, PostGrows, LogGrows, Later}
+use Rattle.model.proofs.Ways.{both}
 
 -- the world with one more entry in its post
 abbrev pub posted_in : World → Entry → World
@@ -37,6 +39,41 @@ before_end xs x d n lt = get_or-append xs (x ∷ []) d n lt
 
 pub at_end : {T : Type 0} (xs : List T) (x d : T) → get_or (xs ++ (x ∷ [])) (length xs) d ≡ x
 at_end xs x d = get_or-append_seam xs x [] d
+
+-- an operation of a log with another one at place k, as far as one looks at what that one keeps of the old
+pub set_keeps : {X : Type 0} (f : Operation → X) (xs : List Operation) (k j : ℕ) (x : Operation) → (j ≡ k → f x ≡ f (get_or xs k no_operation)) → f (get_or (set xs k x) j no_operation) ≡ f (get_or xs j no_operation)
+set_keeps f xs k j x e = by_place (ℕ_discrete j k) (dec_lt k (length xs))
+  where
+    by_place : Dec (j ≡ k) → Dec (k < length xs) → f (get_or (set xs k x) j no_operation) ≡ f (get_or xs j no_operation)
+    by_place (no ne) d = ap f (get_or-set_other xs k j x no_operation ne)
+    by_place (yes same) (yes lt) = ap (λ m. f (get_or (set xs k x) m no_operation)) same ∙ ap f (get_or-set_same xs k x no_operation lt) ∙ e same ∙ ap (λ m. f (get_or xs m no_operation)) (sym same)
+    by_place (yes same) (no past) =
+        ap f (get_or_past (set xs k x) j no_operation (rw (length-set xs k x) (omega arith))) ∙ sym (ap f (get_or_past xs j no_operation (omega arith)))
+
+-- there is one seat for each client
+pub seats_many : (h : Hall) → Sized h → length h.seats ≡ h.rules.clients
+seats_many h s =
+    let all = both (eqb (places h.post) h.lengths.post && eqb (places h.log) h.lengths.log)
+    (eqb (places h.roll) h.lengths.roll && eqb (length h.seats) h.rules.clients) s.tables in
+    eqb-true _ _ (both (eqb (places h.roll) h.lengths.roll) (eqb (length h.seats) h.rules.clients) all.second).second
+
+-- the seats with another for client c
+pub seat_same : (h : Hall) (c : ℕ) (seat : Seat) → Sized h → 1 ≤ c → c ≤ h.rules.clients → get_or (set h.seats (c - 1) seat) (c - 1) no_seat ≡ seat
+seat_same h c seat sized low high = let inside : c - 1 < length h.seats = omega (arith, seats_many h sized) in get_or-set_same h.seats (c - 1) seat no_seat inside
+
+pub seat_other : (h : Hall) (c d : ℕ) (seat : Seat) → 1 ≤ c → 1 ≤ d → (d ≡ c → ⊥) → get_or (set h.seats (c - 1) seat) (d - 1) no_seat ≡ seat_of h d
+seat_other h c d seat low low' ne = get_or-set_other h.seats (c - 1) (d - 1) seat no_seat (λ e. ne (omega arith))
+
+-- each seat keeps its rule: that of client c, and the others
+pub seats_with : {kind : ℕ} {h : Hall} {w' : World} (c : ℕ) (seat : Seat) → Sized h → 1 ≤ c → c ≤ h.rules.clients → SeatRule kind w' c seat
+    → ((d : ℕ) → 1 ≤ d → d ≤ h.rules.clients → (d ≡ c → ⊥) → SeatRule kind w' d (seat_of h d))
+    → (d : ℕ) → 1 ≤ d → d ≤ h.rules.clients → SeatRule kind w' d (get_or (set h.seats (c - 1) seat) (d - 1) no_seat)
+seats_with {kind} {h} {w'} c seat sized low high own others d dlow dhigh = by_client (ℕ_discrete d c)
+  where
+    by_client : Dec (d ≡ c) → SeatRule kind w' d (get_or (set h.seats (c - 1) seat) (d - 1) no_seat)
+    by_client (yes e) = subst (λ z. SeatRule kind w' z (get_or (set h.seats (c - 1) seat) (z - 1) no_seat)) (sym e)
+        (subst (SeatRule kind w' c) (sym (seat_same h c seat sized low high)) own)
+    by_client (no ne) = subst (SeatRule kind w' d) (sym (seat_other h c d seat low dlow ne)) (others d dlow dhigh ne)
 
 -- nothing is issued
 pub roll_stays : (h : Hall) → RollGrows h h.rules h.marked h.roll.list
@@ -134,11 +171,8 @@ places_added {T} t x room = sized t.list t.rest room
 -- the tables are as long as they were
 pub sized_posted : (w : World) (x : Entry) → is_full w.hall.post ≡ false → Sized w.hall → Sized (posted_in w x).hall
 sized_posted w x room s = record {
-  tables = ap (λ n. (eqb n w.hall.lengths.post && eqb (places w.hall.log) w.hall.lengths.log)
-      && (eqb (places w.hall.roll) w.hall.lengths.roll && eqb (length w.hall.seats) w.hall.rules.clients)) (places_added w.hall.post x room) ∙ s.tables;
-  faults = s.faults;
-  replicas = s.replicas;
-  clients = s.clients;
+  tables = rw (places_added w.hall.post x room) s.tables;
+  limits = s.limits;
   post_limit = rw (places_added w.hall.post x room) s.post_limit;
   log_limit = s.log_limit;
 }
@@ -175,7 +209,7 @@ pub post_keeps : (kind : ℕ) (sealed : List Text) (w : World) (x : Entry) → H
 unfolding later_posted
 post_keeps kind sealed w x holds room justified answer cards quiet = record {
   sized = sized_posted w x room holds.sized;
-  roll = let r = holds.roll in record { sound = r.sound; some = r.some; first = r.first; epochs = r.epochs; source = r.source; inside = r.inside };
+  roll = holds.roll;
   good = subst (λ h. Good (views w.hall) h) (sym (history_added w.hall x)) (next justified holds.good);
   answers = answers_posted kind w (posted_in w x) x l refl answer holds.answers;
   cards = λ q lt. let c = holds.cards q lt in record { card = c.card; kept = c.kept; rule = λ honest. cards q c.card honest (c.rule honest) c.kept };
@@ -208,16 +242,8 @@ pub aside_keeps : (kind : ℕ) (sealed : List Text) (w : World) (seats : List Se
     → Holds kind sealed (aside w seats place saves seals open_place given)
 unfolding later_aside history
 aside_keeps kind sealed w seats place saves seals open_place given holds same cards rules = record {
-  sized = let s = holds.sized in record {
-    tables = ap (λ n. (eqb (places w.hall.post) w.hall.lengths.post && eqb (places w.hall.log) w.hall.lengths.log)
-        && (eqb (places w.hall.roll) w.hall.lengths.roll && eqb n w.hall.rules.clients)) same ∙ s.tables;
-    faults = s.faults;
-    replicas = s.replicas;
-    clients = s.clients;
-    post_limit = s.post_limit;
-    log_limit = s.log_limit;
-  };
-  roll = let r = holds.roll in record { sound = r.sound; some = r.some; first = r.first; epochs = r.epochs; source = r.source; inside = r.inside };
+  sized = let s = holds.sized in record { tables = rw same s.tables; limits = s.limits; post_limit = s.post_limit; log_limit = s.log_limit };
+  roll = holds.roll;
   good = holds.good;
   answers = λ n lt. later_answer kind l (entry_of w.hall n) (holds.answers n lt);
   cards = cards;
@@ -242,7 +268,7 @@ pub card_aside : (kind : ℕ) (w : World) (seats : List Seat) (place : ℕ → O
     (q : ℕ) (card : Card) → CardRule kind w q card → CardRule kind (aside w seats place saves seals open_place given) q card
 unfolding later_aside history
 card_aside kind w seats place saves seals open_place given q card rule =
-    card_later (later_aside w seats place saves seals open_place given) (λ e t s. rule.served s) (λ r a s t. rule.stocked t) rule
+    card_kept (later_aside w seats place saves seals open_place given) (λ e t s. rule.served s) (λ r a s t. rule.stocked t) rule
 
 -- one card is replaced
 pub card_keeps : (kind : ℕ) (sealed : List Text) (w : World) (q : ℕ) (card : Card) (saves : Option ℕ) → Holds kind sealed w

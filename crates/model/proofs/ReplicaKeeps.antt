@@ -29,6 +29,7 @@ use Rattle.model.specs.Halls.{with_store}
 use Rattle.model.specs.Runs.{text_of, text_by_kind}
 use Rattle.model.proofs.Cards.{card_raised, card_entering, card_stocked, NotLower}
 use Rattle.model.proofs.Frames.{posted_entry}
+use Rattle.model.proofs.Heard.{SentBy, sent_by}
 use Rattle.model.proofs.Invariants.{views, history, KnownConfiguration, KnownPair, Genuine, CardRule, CardOf, Holds, UnforgedNow}
 use Rattle.model.proofs.Posts.{saved_in, card_keeps}
 use Rattle.model.proofs.ReplicaMoves.{ReplicaMove, talks, answers_read, keeps, takes, enters, enters_outside, gives, hears, Hearing, replica_view}
@@ -66,11 +67,6 @@ did_save w n card said post place saves e = by_room (none_left w.hall.saves) e
         → DidSave w n card said post place
     by_room true is = not_ok (ap (λ s. s.answer) is)
     by_room false is = record { place_is = ap (λ s. s.place) is; post_is = ok_same (ap (λ s. s.answer) is) }
-
--- the replica that sent an entry, as a member of a set
-record FromMember (set sender : ℕ) (from : Replica) : Type 0 where
-  sent_by : sender ≡ 100 + from.number
-  inside : member set from.number ≡ true
 
 module _ (kind : ℕ) (sealed : List Text) (w : World) (small : kind ≤ 63) (holds : Holds kind sealed w) (unforged : UnforgedNow kind sealed w)
     (n : ℕ) (lt : n < length w.hall.post.list) (replica : Replica) (inside : replica.number < w.hall.rules.replicas)
@@ -183,16 +179,6 @@ module _ (kind : ℕ) (sealed : List Text) (w : World) (small : kind ≤ 63) (ho
   small_writer : (p : Pair) → KnownPair w.hall p → p.stamp.writer < 256
   small_writer p known = known_writer kind sealed w holds p known
 
-  -- who sent STOCK, as the card has it
-  sender_is : (set sender : ℕ) (from : Replica) → sender_within set sender ≡ Some from → FromMember set sender from
-  sender_is set sender from is = way (leb 100 sender && member set (sender - 100)) is
-      (λ t e. let b = both (leb 100 sender) (member set (sender - 100)) t in
-      let m = b.second in
-      let low = leb-true 100 sender b.first in
-      let number = single_number (sender - 100) from e in
-      record { sent_by = omega arith; inside = ap (member set) number ∙ m })
-      (λ t e. not_some e)
-
   -- STOCK that it awaits, with its sender
   hears_rule : (entry_of w.hall n).kind ≡ 6 → (from : Replica) → Hearing replica mine.card (entry_of w.hall n) checks from
       → Honest (views w.hall) replica.number → CardRule kind w replica.number (stocked w.hall.rules mine.card from (pair_of (entry_of w.hall n)))
@@ -204,7 +190,7 @@ module _ (kind : ℕ) (sealed : List Text) (w : World) (small : kind ≤ 63) (ho
       (genuine_higher (above (pair_of (entry_of w.hall n)).stamp mine.card.pair.stamp))
       (ap (λ z. member z from.number) (sym ((mine.rule honest).previous (entry_of w.hall n).epoch (sym h.epoch))) ∙ sent.inside)
       (posted_map (λ y same. record {
-        sender = ap (λ z. z.sender) same ∙ sent.sent_by;
+        sender = ap (λ z. z.sender) same ∙ sent.number;
         kind = ap (λ z. z.kind) same ∙ k;
         addressee = ap (λ z. z.addressee) same ∙ eqb-true _ _ (both (is_replica_number (entry_of w.hall n).sender) (eqb (entry_of w.hall n).addressee (100 + replica.number)) (fits_at 6 k)).second;
         epoch = ap (λ z. z.epoch) same;
@@ -215,8 +201,8 @@ module _ (kind : ℕ) (sealed : List Text) (w : World) (small : kind ≤ 63) (ho
       known : KnownPair w.hall (pair_of (entry_of w.hall n))
       known = stock_known k h.checks
 
-      sent : FromMember mine.card.previous.0 (entry_of w.hall n).sender from
-      sent = sender_is mine.card.previous.0 (entry_of w.hall n).sender from h.from_previous
+      sent : SentBy mine.card.previous.0 (entry_of w.hall n).sender from
+      sent = sent_by mine.card.previous.0 (entry_of w.hall n).sender from h.from_previous
 
       by_above : (b : Bool) → above (pair_of (entry_of w.hall n)).stamp mine.card.pair.stamp ≡ b
           → NotLower mine.card.pair (pair_of (entry_of w.hall n)) (cond b (pair_of (entry_of w.hall n)) mine.card.pair)

@@ -17,8 +17,7 @@ use Rattle.histories.proofs.Posting.{justified_pair, justified_ack, justified_st
 use Rattle.histories.proofs.Rounds.{one_write}
 use Rattle.model.specs.Tables.{is_full}
 use Rattle.model.specs.Halls.{World}
-use Rattle.model.proofs.Cards.{card_later}
-use Rattle.model.proofs.Frames.{history_added, later_card, later_genuine, QuietReplica, QuietClient}
+use Rattle.model.proofs.Frames.{card_kept, history_added, later_card, later_genuine, QuietReplica, QuietClient}
 use Rattle.model.proofs.Invariants.{views, history, stamp_number, issued_as, CardRule, AnswerRule, Holds, Later}
 use Rattle.model.proofs.Posts.{posted_in, later_posted, no_answer, post_keeps}
 use Rattle.model.proofs.Ways.{some_same}
@@ -96,7 +95,7 @@ card_posted : {kind : ℕ} {w : World} {q : ℕ} {card : Card} (x : Entry) → C
     → (other : Card) → CardRule kind w q other → w.hall.place q ≡ Some other → CardRule kind (posted_in w x) q other
 card_posted {kind} {w} {q} {card} x rule kept serves stocks other r k =
     subst (λ z. CardRule kind (posted_in w x) q z) (some_same (sym kept ∙ k))
-    (card_later (later_posted w x)
+    (card_kept (later_posted w x)
     (λ e t s. all_served (subst (λ h. Served h q e t) (history_added w.hall x) s))
     (λ r a s st. all_stocked (subst (λ h. Stocked h q r a s) (history_added w.hall x) st)) rule)
   where

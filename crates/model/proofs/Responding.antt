@@ -44,7 +44,7 @@ use Rattle.model.proofs.Invariants.{views, history, issued_as, stamp_number, Sea
 use Rattle.model.proofs.Parties.{client_numbered, replica_numbered}
 use Rattle.model.proofs.RunKeeps.{sealed_at, holds_at, unforged_at}
 use Rattle.model.proofs.SeatTurns.{begun_seat, Onward, onward_same, onward_trans, SeatTurn, seat_turn, turn_onward, Staying, stays_open, is_ended, is_called_off, turn_staying}
-use Rattle.model.proofs.Trace.{grows, collects_over, ended_valued}
+use Rattle.model.proofs.Trace.{slip_answered, slips_there, grows, collects_over, ended_valued}
 use Rattle.model.proofs.Stages.{in_stage}
 use Rattle.model.proofs.Ways.{not_some}
 
@@ -113,18 +113,10 @@ module _ {V : Type 0} (kind : Kind V) (v : V) (start : World) (lawful : Lawful k
               let value = ended_valued kind v start lawful opened run unforged (j + 1) u.place lc o in
               absurd (nothing_ended (sym (u.not_ended j (omega arith)) ∙ collects_over kind v start lawful opened run unforged (j + 1) c u.place lc s.low high_there over its ∙ value.is))
 
-      begins_it : {o k : ℕ} → Operation run o c k → begins_slip (run.call o) (run.answer o) ≡ true
-      begins_it {o} (a_read lt call answer) = ap (λ x. begins_slip x (run.answer o)) call ∙ ap slips answer
-      begins_it {o} (a_write lt x call answer) = ap (λ x. begins_slip x (run.answer o)) call ∙ ap slips answer
-
-      answered : {o k : ℕ} → Operation run o c k → run.answer o ≡ slip c k
-      answered (a_read lt call answer) = answer
-      answered (a_write lt x call answer) = answer
-
       base : u.position ≡ j → OpenSeat (j + 1) c u.place
       base here =
-          let b = begun_seat (holds j (omega arith)) (subst (λ m. begins_slip (run.call m) (run.answer m) ≡ true) here (begins_it u.operation))
-          (subst (λ m. run.answer m ≡ slip c u.place) here (answered u.operation)) (did j within) in
+          let b = begun_seat (holds j (omega arith)) (subst (λ m. begins_slip (run.call m) (run.answer m) ≡ true) here (slips_there run u.operation))
+          (subst (λ m. run.answer m ≡ slip c u.place) here (slip_answered run u.operation)) (did j within) in
           record {
             low = b.low;
             high = subst (λ r. c ≤ r.clients) (clients_same j (omega arith)) b.high;

@@ -41,13 +41,13 @@ set_known : (h : Hall) (c : Configuration) (e : ℕ) → e < length h.roll.list 
 set_known h c e lt epoch set = record { issued = omega arith; set = set ∙ ap (λ a. (issued_as h a).set.0) (sym epoch) }
 
 -- the text of a configuration is no pair's, and no other configuration's
-pub text_configuration : (kind : ℕ) (h : Hall) (c : Configuration) → kind ≤ 63 → RollRule h → KnownText kind h (configuration_text c) → KnownConfiguration h c
+pub text_configuration : (kind : ℕ) (h : Hall) (c : Configuration) → kind ≤ 63 → RollRule h.rules h.marked h.roll.list h.source.newest → KnownText kind h (configuration_text c) → KnownConfiguration h c
 text_configuration kind h c small roll (of_configuration e lt same) =
     set_known h c e lt (ap (λ t. t.number) same ∙ roll.epochs e lt) (ap (λ t. t.body) same)
 text_configuration kind h c small roll (of_write k s same) = absurd (omega (arith, ap (λ t. t.tag) same))
 
 -- a configuration equal to the first one is known
-first_known : (h : Hall) (c : Configuration) → RollRule h → same_configuration c (first_configuration h.rules) ≡ true → KnownConfiguration h c
+first_known : (h : Hall) (c : Configuration) → RollRule h.rules h.marked h.roll.list h.source.newest → same_configuration c (first_configuration h.rules) ≡ true → KnownConfiguration h c
 first_known h c roll same =
     let epoch = eqb c.epoch 0 in
     let set = eqb c.set.0 h.rules.first.0 in

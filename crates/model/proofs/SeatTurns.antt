@@ -26,8 +26,8 @@ use Rattle.model.proofs.ClientMoves.{ClientMove, counts_pair, ends_read, writes_
 use Rattle.model.proofs.Effects.{Effect, stands, issues, starts, client_steps, replica_steps, calls_off, collects_it, lodges, redeems, meddles, answer_is, hall_is}
 use Rattle.model.proofs.Events.{begins_slip, refused_begins_none, slip_same}
 use Rattle.model.proofs.Invariants.{Holds}
-use Rattle.model.proofs.SlipKeeps.{seat_same, seat_other}
 use Rattle.model.proofs.StageTests.{over_shut, idle_shut}
+use Rattle.model.proofs.Posts.{seat_same, seat_other}
 
 -- a line goes on to another: rounds do not fall, and a round that is still open is in the stage that it was in
 -- and has counted all that it had

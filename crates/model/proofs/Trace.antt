@@ -24,6 +24,15 @@ use Rattle.model.proofs.Ways.{way_in, both, not_some}
 use Rattle.model.proofs.Stages.{in_stage}
 use Rattle.model.proofs.StageTests.{over_is}
 
+-- a begin is a call that is answered by a slip
+pub slip_answered : {V : Type 0} {kind : Kind V} {start : World} (run : Run kind start) {o c k : ℕ} → Operation run o c k → run.answer o ≡ slip c k
+slip_answered run (a_read lt call answer) = answer
+slip_answered run (a_write lt u call answer) = answer
+
+pub slips_there : {V : Type 0} {kind : Kind V} {start : World} (run : Run kind start) {o c k : ℕ} → Operation run o c k → begins_slip (run.call o) (run.answer o) ≡ true
+slips_there run {o} (a_read lt call answer) = ap (λ x. begins_slip x (run.answer o)) call ∙ ap slips answer
+slips_there run {o} (a_write lt u call answer) = ap (λ x. begins_slip x (run.answer o)) call ∙ ap slips answer
+
 module _ {V : Type 0} (kind : Kind V) (v : V) (start : World) (lawful : Lawful kind) (opened : Opened kind v start.hall) (run : Run kind start) (unforged : Unforged run) where
   abbrev hall_at : ℕ → Hall
   hall_at i = (run.world i).hall
@@ -66,25 +75,17 @@ module _ {V : Type 0} (kind : Kind V) (v : V) (start : World) (lawful : Lawful k
       within (a_read lt call answer) = lt
       within (a_write lt u call answer) = lt
 
-      begins_it : Operation run o c k → begins_slip (run.call o) (run.answer o) ≡ true
-      begins_it (a_read lt call answer) = ap (λ x. begins_slip x (run.answer o)) call ∙ ap slips answer
-      begins_it (a_write lt u call answer) = ap (λ x. begins_slip x (run.answer o)) call ∙ ap slips answer
-
-      answered : Operation run o c k → run.answer o ≡ slip c k
-      answered (a_read lt call answer) = answer
-      answered (a_write lt u call answer) = answer
-
       by_event : Operation run o c k → Event kind (hall_at o) (hall_at (o + 1)) (run.call o) (run.answer o) → Started o c k
-      by_event op (nothing none s) = absurd (clash (sym none ∙ begins_it op))
-      by_event op (ends d j low high none e) = absurd (clash (sym none ∙ begins_it op))
+      by_event op (nothing none s) = absurd (clash (sym none ∙ slips_there run op))
+      by_event op (ends d j low high none e) = absurd (clash (sym none ∙ slips_there run op))
       by_event op (begins d word call answer b) =
-          let same = slip_same (sym answer ∙ answered op) in
+          let same = slip_same (sym answer ∙ slip_answered run op) in
           record {
             word = word;
             start_of = record {
               within = within op;
               call = subst (λ m. BeginCall kind (run.call o) m word) same.0 call;
-              answer = answered op;
+              answer = slip_answered run op;
               place = sym same.1;
               log = subst (λ m. BegunLog (hall_at o) (hall_at (o + 1)) m word) same.0 b;
             };
