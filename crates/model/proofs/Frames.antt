@@ -61,6 +61,10 @@ posted_entry h n lt =
     posted_map (λ x e. e ∙ get_or-reverse list place no_entry (omega arith) ∙ ap (λ m. get_or list m no_entry) back)
     (posted_at (reverse list) place no_entry (omega (arith, length-reverse list)))
 
+-- so one of a shape does
+pub posted_as : {P : Entry → Type 0} (h : Hall) (n : ℕ) → n < length h.post.list → P (entry_of h n) → Posted P (history h)
+posted_as {P} h n lt p = posted_map (λ y is. subst P (sym is) p) (posted_entry h n lt)
+
 pub later_views : {w w' : World} → Later w w' → Extends (views w.hall) (views w'.hall)
 later_views l = record {
   faults = ap (λ rules. rules.faults) l.rules;

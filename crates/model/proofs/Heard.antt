@@ -1,6 +1,6 @@
 -- One more PAIR or ACK is counted: what is said of the counted replicas holds of the new one too.
 -- The lemmas speak of one world, in which the entry that is handed over stands in the post.
-use Rattle.std.proofs.Common.{◌≡◌, ℕ, ◌+◌, ◌-◌, ◌*◌, ◌<◌, ◌≤◌, Bool, true, false, cond, ◌&&◌, eqb, leb, List, ◌∷◌, length, Some, sym, refl, ap, ◌∙◌, subst, ⊎_elim, arith}
+use Rattle.std.proofs.Common.{◌≡◌, ℕ, ◌+◌, ◌-◌, ◌*◌, ◌<◌, ◌≤◌, Bool, true, false, cond, ◌&&◌, eqb, leb, List, ◌∷◌, length, Some, sym, refl, ap, ◌∙◌, subst, ⊎_elim, arith, subst₂}
 use Rattle.std.proofs.lemmas.Bool.{both_ways, and_parts, eqb-true, eqb-false, leb-true}
 use Rattle.wire.specs.declared.entry.Entry.{Entry}
 use Rattle.wire.specs.declared.pair.Pair.{Pair}
@@ -13,22 +13,22 @@ use Rattle.wire.proofs.Made.{single_number}
 use Rattle.rules.specs.Genuine.{genuine_by_kind, genuine_entry}
 use Rattle.rules.specs.Senders.{sender_within}
 use Rattle.clients.specs.Lines.{same_stamp, counting}
-use Rattle.quorums.specs.Quorums.{Honest}
+use Rattle.quorums.specs.Quorums.{Honest, Views}
 use Rattle.quorums.proofs.Insertion.{none_in_empty, inserted_cases}
 use Rattle.histories.specs.Places.{Posted}
 use Rattle.histories.specs.Places.Somewhere.{here, there}
 use Rattle.histories.specs.Shapes.{ReadEntry, WriteEntry, PairEntry, AckEntry}
-use Rattle.histories.specs.Histories.{Served, Good}
+use Rattle.histories.specs.Histories.{Served, Good, Justified}
 use Rattle.histories.specs.Histories.Serves.{by_pair}
 use Rattle.histories.specs.Reads.{Answered}
-use Rattle.histories.proofs.Places.{found, posted_map, somewhere_grows, beneath_append, beneath_rest}
+use Rattle.histories.proofs.Places.{found, posted_map, somewhere_grows, beneath_append, beneath_rest, Beneath}
 use Rattle.histories.proofs.Rounds.{one_read, one_write, acked_served, answer_above, PairTo}
 use Rattle.halls.specs.declared.seat.Seat.{Seat}
-use Rattle.model.specs.Halls.{World}
+use Rattle.model.specs.Halls.{World, Hall}
 use Rattle.model.specs.Delivering.{entry_of}
 use Rattle.model.specs.Runs.{text_by_kind}
 use Rattle.model.proofs.ClientMoves.{Hears, Acked, heard}
-use Rattle.model.proofs.Frames.{posted_entry}
+use Rattle.model.proofs.Frames.{posted_entry, posted_as}
 use Rattle.model.proofs.Invariants.{views, history, stamp_number, KnownPair, Genuine, AskedRule, ReadingRule, SendingRule, Holds, UnforgedNow}
 use Rattle.model.proofs.Seals.{checked_pair, known_writer}
 use Rattle.model.proofs.Stamps.{above_higher, not_above, same_number}
@@ -59,6 +59,17 @@ read_posted {c = c} {round = round} {epoch = epoch} r = subst (Posted (ReadEntry
 -- a set with a member is not empty
 pub not_empty : (s n : ℕ) → member s n ≡ true → s ≡ 0 → ⊥
 not_empty s n m z = both_ways (member 0 n) (none_in_empty n) (ap (λ x. member x n) (sym z) ∙ m)
+
+-- an entry is justified by what lay in the history when it was posted
+pub record PostedWell (v : Views) (x : Entry) (h : List Entry) : Type 0 where
+  pub below : List Entry
+  pub beneath : Beneath below h
+  pub justified : Justified v x below
+
+posted_good : {v : Views} (h : Hall) (n : ℕ) → n < length h.post.list → Good v (history h) → PostedWell v (entry_of h n) (history h)
+posted_good {v} h n lt good =
+    let f = found (posted_entry h n lt) good in
+    record { below = f.below; beneath = beneath_rest f.place; justified = subst (λ y. Justified v y f.below) f.seen f.ruled }
 
 -- the highest of the pair heard so far, if there is one, and of a new one
 pub record Merged (kind : ℕ) (w : World) (counted : ℕ) (highest pair kept : Pair) (agree now : Bool) : Type 0 where
@@ -110,25 +121,16 @@ module _ {kind : ℕ} {sealed : List Text} {w : World} (holds : Holds kind seale
     pub pair_epoch : {e : ℕ} → (entry_of w.hall n).kind ≡ 4 → Posted (ReadEntry c r e) (history w.hall) → (entry_of w.hall n).epoch ≡ e
     pair_epoch kind_is asked =
         let x = entry_of w.hall n in
-        let f = found (posted_entry w.hall n lt) holds.good in
-        let is = f.seen in
-        let rule = f.ruled.pair {q = q} {e = x.epoch} {s = stamp_number (pair_of x)}
-        (record { sender = ap (λ y. y.sender) is ∙ from; kind = ap (λ y. y.kind) is ∙ kind_is; epoch = ap (λ y. y.epoch) is; stamp = ap (λ y. y.count * 256 + y.writer) is }) honest in
-        one_read holds.good
-        (posted_map (λ y a. record { client = a.client; sender = a.sender; kind = a.kind; round = a.round; epoch = a.epoch })
-        (subst (λ m. Posted (ReadEntry c m x.epoch) (history w.hall)) (ap (λ y. y.round) is ∙ in_round)
-        (subst (λ d. Posted (ReadEntry d f.entry.round x.epoch) (history w.hall)) (ap (λ y. y.addressee) is ∙ to)
-        (somewhere_grows (beneath_rest f.place) rule.asked))))
-        asked
+        let there = posted_good w.hall n lt holds.good in
+        let rule = there.justified.pair {q = q} {e = x.epoch} {s = stamp_number (pair_of x)} (record { sender = from; kind = kind_is; epoch = refl; stamp = refl }) honest in
+        one_read holds.good (subst₂ (λ d m. Posted (ReadEntry d m x.epoch) (history w.hall)) to in_round (somewhere_grows there.beneath rule.asked)) asked
 
     pub ack_epoch : {e s : ℕ} → (entry_of w.hall n).kind ≡ 5 → Posted (WriteEntry c r e s) (history w.hall) → (entry_of w.hall n).epoch ≡ e
     ack_epoch kind_is asked =
         let x = entry_of w.hall n in
-        let f = found (posted_entry w.hall n lt) holds.good in
-        let is = f.seen in
-        let rule = f.ruled.ack {q = q} {e = x.epoch} {c = c} {r = r}
-        (record { sender = ap (λ y. y.sender) is ∙ from; kind = ap (λ y. y.kind) is ∙ kind_is; addressee = ap (λ y. y.addressee) is ∙ to; round = ap (λ y. y.round) is ∙ in_round; epoch = ap (λ y. y.epoch) is }) honest in
-        (one_write holds.good (somewhere_grows (beneath_rest f.place) rule.asked) asked).epochs
+        let there = posted_good w.hall n lt holds.good in
+        let rule = there.justified.ack {q = q} {e = x.epoch} {c = c} {r = r} (record { sender = from; kind = kind_is; addressee = to; round = in_round; epoch = refl }) honest in
+        (one_write holds.good (somewhere_grows there.beneath rule.asked) asked).epochs
 
   module _ (small : kind ≤ 63) (unforged : UnforgedNow kind sealed w) (n : ℕ) (lt : n < length w.hall.post.list) (c : ℕ) (to : (entry_of w.hall n).addressee ≡ c) (seat : Seat) (from : Replica) where
     -- a PAIR is heard
@@ -143,12 +145,11 @@ module _ {kind : ℕ} {sealed : List Text} {w : World} (holds : Holds kind seale
       pair_known = checked_pair kind sealed w small holds unforged n lt (ap (λ k. text_by_kind (kind_of k) kind (entry_of w.hall n)) h.kind) pair_genuine
 
       pair_posted : Honest (views w.hall) from.number → Posted (PairTo from.number seat.line.configuration.epoch (stamp_number (pair_of (entry_of w.hall n))) c seat.line.round) (history w.hall)
-      pair_posted honest = posted_map (λ y is. record {
-        pair = record { sender = ap (λ z. z.sender) is ∙ by.number; kind = ap (λ z. z.kind) is ∙ h.kind; epoch = ap (λ z. z.epoch) is ∙ pair_epoch n lt by.number to h.round honest h.kind (read_posted r.read_asked); stamp = ap (λ z. z.count * 256 + z.writer) is };
-        addressee = ap (λ z. z.addressee) is ∙ to;
-        round = ap (λ z. z.round) is ∙ h.round;
+      pair_posted honest = posted_as w.hall n lt (record {
+        pair = record { sender = by.number; kind = h.kind; epoch = pair_epoch n lt by.number to h.round honest h.kind (read_posted r.read_asked); stamp = refl };
+        addressee = to;
+        round = h.round;
       })
-          (posted_entry w.hall n lt)
 
       pair_answers : Honest (views w.hall) from.number → Posted (PairEntry from.number seat.line.configuration.epoch (stamp_number (pair_of (entry_of w.hall n)))) r.newer
       pair_answers honest = posted_map (λ y a. a.pair)
@@ -189,14 +190,13 @@ module _ {kind : ℕ} {sealed : List Text} {w : World} (holds : Holds kind seale
       ack_by = sent_by seat.line.configuration.set.0 (entry_of w.hall n).sender from h.inside
 
       ack_posted : Honest (views w.hall) from.number → Posted (AckEntry from.number seat.line.configuration.epoch c seat.line.round) (history w.hall)
-      ack_posted honest = posted_map (λ y is. record {
-        sender = ap (λ z. z.sender) is ∙ ack_by.number;
-        kind = ap (λ z. z.kind) is ∙ h.kind;
-        addressee = ap (λ z. z.addressee) is ∙ to;
-        round = ap (λ z. z.round) is ∙ h.round;
-        epoch = ap (λ z. z.epoch) is ∙ ack_epoch n lt ack_by.number to h.round honest h.kind r.asked;
+      ack_posted honest = posted_as w.hall n lt (record {
+        sender = ack_by.number;
+        kind = h.kind;
+        addressee = to;
+        round = h.round;
+        epoch = ack_epoch n lt ack_by.number to h.round honest h.kind r.asked;
       })
-          (posted_entry w.hall n lt)
 
       pub counted_sending : SendingRule kind w c (counting seat.line from) seat.operation writes
       counted_sending = record {

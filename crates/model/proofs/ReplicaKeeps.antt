@@ -21,14 +21,13 @@ use Rattle.replicas.specs.Steps.{after_save, saving, acted, with_card}
 use Rattle.quorums.specs.Quorums.{Honest}
 use Rattle.histories.specs.Places.{Posted}
 use Rattle.histories.specs.Shapes.{stamp_of, ReadEntry, WriteEntry}
-use Rattle.histories.proofs.Places.{posted_map}
 use Rattle.model.specs.Tables.{is_full}
 use Rattle.model.specs.Halls.{World}
 use Rattle.model.specs.Delivering.{entry_of, fits_replica, posting, replica_step_of, shelf_of, is_client_number, is_replica_number}
 use Rattle.model.specs.Halls.{with_store}
 use Rattle.model.specs.Runs.{text_of, text_by_kind}
 use Rattle.model.proofs.Cards.{card_raised, card_entering, card_stocked, NotLower}
-use Rattle.model.proofs.Frames.{posted_entry}
+use Rattle.model.proofs.Frames.{posted_as}
 use Rattle.model.proofs.Heard.{SentBy, sent_by}
 use Rattle.model.proofs.Invariants.{views, history, KnownConfiguration, KnownPair, Genuine, CardRule, CardOf, Holds, UnforgedNow}
 use Rattle.model.proofs.Posts.{saved_in, card_keeps}
@@ -108,23 +107,10 @@ module _ (kind : ℕ) (sealed : List Text) (w : World) (small : kind ≤ 63) (ho
   below_100 c = grind (arith, nat_tests)
 
   read_posted : (entry_of w.hall n).kind ≡ 1 → Posted (ReadEntry (entry_of w.hall n).sender (entry_of w.hall n).round (entry_of w.hall n).epoch) (history w.hall)
-  read_posted is = posted_map (λ y same. record {
-    client = below_100 (fits_at 1 is);
-    sender = ap (λ z. z.sender) same;
-    kind = ap (λ z. z.kind) same ∙ is;
-    round = ap (λ z. z.round) same;
-    epoch = ap (λ z. z.epoch) same;
-  }) (posted_entry w.hall n lt)
+  read_posted is = posted_as w.hall n lt (record { client = below_100 (fits_at 1 is); sender = refl; kind = is; round = refl; epoch = refl })
 
   write_posted : (entry_of w.hall n).kind ≡ 2 → Posted (WriteEntry (entry_of w.hall n).sender (entry_of w.hall n).round (entry_of w.hall n).epoch (stamp_of (entry_of w.hall n))) (history w.hall)
-  write_posted is = posted_map (λ y same. record {
-    client = below_100 (fits_at 2 is);
-    sender = ap (λ z. z.sender) same;
-    kind = ap (λ z. z.kind) same ∙ is;
-    round = ap (λ z. z.round) same;
-    epoch = ap (λ z. z.epoch) same;
-    stamp = ap stamp_of same;
-  }) (posted_entry w.hall n lt)
+  write_posted is = posted_as w.hall n lt (record { client = below_100 (fits_at 2 is); sender = refl; kind = is; round = refl; epoch = refl; stamp = refl })
 
   -- the pair and the configuration that it carries, where they check
   pair_known : (entry_of w.hall n).kind ≡ 2 → checks ≡ true → KnownPair w.hall (pair_of (entry_of w.hall n))
@@ -189,13 +175,13 @@ module _ (kind : ℕ) (sealed : List Text) (w : World) (small : kind ≤ 63) (ho
       (known_higher (above (pair_of (entry_of w.hall n)).stamp mine.card.pair.stamp))
       (genuine_higher (above (pair_of (entry_of w.hall n)).stamp mine.card.pair.stamp))
       (ap (λ z. member z from.number) (sym ((mine.rule honest).previous (entry_of w.hall n).epoch (sym h.epoch))) ∙ sent.inside)
-      (posted_map (λ y same. record {
-        sender = ap (λ z. z.sender) same ∙ sent.number;
-        kind = ap (λ z. z.kind) same ∙ k;
-        addressee = ap (λ z. z.addressee) same ∙ eqb-true _ _ (both (is_replica_number (entry_of w.hall n).sender) (eqb (entry_of w.hall n).addressee (100 + replica.number)) (fits_at 6 k)).second;
-        epoch = ap (λ z. z.epoch) same;
-        stamp = ap stamp_of same;
-      }) (posted_entry w.hall n lt))
+      (posted_as w.hall n lt (record {
+        sender = sent.number;
+        kind = k;
+        addressee = eqb-true _ _ (both (is_replica_number (entry_of w.hall n).sender) (eqb (entry_of w.hall n).addressee (100 + replica.number)) (fits_at 6 k)).second;
+        epoch = refl;
+        stamp = refl;
+      }))
       (mine.rule honest)
     where
       known : KnownPair w.hall (pair_of (entry_of w.hall n))

@@ -37,7 +37,7 @@ use Rattle.model.proofs.ClientStamps.{known_low}
 use Rattle.model.proofs.Closing.{FoundPair, pair_closes}
 use Rattle.model.proofs.Effects.{Effect, effect_of}
 use Rattle.model.proofs.Events.{begins_slip, slips}
-use Rattle.model.proofs.Frames.{posted_entry}
+use Rattle.model.proofs.Frames.{posted_as}
 use Rattle.model.proofs.Handing.{Counts, post_small, sent_within, move_counts, heeded_pair, heeded_ack, handed_counts}
 use Rattle.model.proofs.Heard.{read_posted, pair_epoch, ack_epoch}
 use Rattle.model.proofs.Invariants.{views, history, issued_as, stamp_number, SeatRule, Holds}
@@ -166,11 +166,9 @@ module _ {V : Type 0} (kind : Kind V) (v : V) (start : World) (lawful : Lawful k
       where
         by_kind : Asks asked → r ≤ (seat_of (hall_at i) c).line.round
         by_kind (inl read) = mine.reads {e = (entry_of (hall_at i) last.number).epoch}
-            (posted_map (λ y is. record { client = small; sender = ap (λ z. z.sender) is ∙ last.sender; kind = ap (λ z. z.kind) is ∙ last.kind_asked ∙ read; round = ap (λ z. z.round) is ∙ last.round; epoch = ap (λ z. z.epoch) is })
-            (posted_entry (hall_at i) last.number last.posted))
+            (posted_as (hall_at i) last.number last.posted (record { client = small; sender = last.sender; kind = last.kind_asked ∙ read; round = last.round; epoch = refl }))
         by_kind (inr write) = mine.writes {e = (entry_of (hall_at i) last.number).epoch} {s = (entry_of (hall_at i) last.number).count * 256 + (entry_of (hall_at i) last.number).writer}
-            (posted_map (λ y is. record { client = small; sender = ap (λ z. z.sender) is ∙ last.sender; kind = ap (λ z. z.kind) is ∙ last.kind_asked ∙ write; round = ap (λ z. z.round) is ∙ last.round; epoch = ap (λ z. z.epoch) is; stamp = ap (λ z. z.count * 256 + z.writer) is })
-            (posted_entry (hall_at i) last.number last.posted))
+            (posted_as (hall_at i) last.number last.posted (record { client = small; sender = last.sender; kind = last.kind_asked ∙ write; round = last.round; epoch = refl; stamp = refl }))
 
     -- what the client has asked in the round of its line is what it asked last
     record SameAsk (k : ℕ) : Type 0 where
