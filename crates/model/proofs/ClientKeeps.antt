@@ -1,6 +1,6 @@
 -- The step of a client keeps every rule.
 -- The entry that is handed over stands in the post, and the post has room.
-use Rattle.std.proofs.Common.{◌≡◌, ℕ, ◌+◌, ◌<◌, ◌≤◌, Bool, true, false, cond, not, ◌&&◌, eqb, List, ◌∷◌, length, set, Some, None, Ok, Err, Option, Result, sym, refl, ap, ◌∙◌, subst, ⊎_elim, arith}
+use Rattle.std.proofs.Common.{◌≡◌, ℕ, ◌+◌, ◌<◌, ◌≤◌, Bool, true, false, cond, not, ◌&&◌, eqb, List, ◌∷◌, length, set, Some, None, Ok, Err, Option, Result, sym, refl, ap, ◌∙◌, subst, ⊎_elim, arith, subst₂}
 use lib.Seq.{set-get_or}
 use Rattle.std.proofs.lemmas.Bool.{and_parts, eqb-true, ne_eqb}
 use Rattle.kinds.specs.declared.word.Word.{Word}
@@ -22,6 +22,7 @@ use Rattle.clients.specs.Lines.{is_idle, ended, counting, sealed_with as with_se
 use Rattle.clients.specs.Steps.{Stepped, acted, signing}
 use Rattle.clients.specs.Turns.{Verdict, decided, is_quorum, read_of, write_of}
 use Rattle.halls.specs.declared.operation.Operation.{Operation}
+use Rattle.halls.specs.declared.seat.Seat.{Seat}
 use Rattle.model.specs.Tables.{Table, is_full, added}
 use Rattle.model.specs.Halls.{World, no_operation, seat_of, operation_of, desk_of}
 use Rattle.model.specs.Answers.{has_moment}
@@ -36,6 +37,7 @@ use Rattle.model.proofs.ClientSteps.{client_low, keeps_pair, keeps_ack, keeps_co
 use Rattle.model.proofs.Closing.{found_ends, pair_closes}
 use Rattle.model.proofs.Invariants.{SeatRule, Holds, UnforgedNow}
 use Rattle.model.proofs.Moved.{moved}
+use Rattle.model.proofs.Posts.{table_after, posting_is}
 use Rattle.model.proofs.Seats.{with_line}
 use Rattle.model.proofs.StageTests.{writing_cases, same_over, same_stamping, not_to_reading, not_to_over}
 
@@ -47,11 +49,6 @@ sealed_with (Some t) sealed = t ∷ sealed
 -- the world after a step of client c
 abbrev pub client_world : World → ℕ → Line → Option Entry → (ℕ → ℕ) → (Text → Seal → Bool) → World
 client_world w c line post seals genuine = record w { hall = client_moves w.hall c (seat_of w.hall c) line post seals; genuine = genuine }
-
--- the post with what a step answers
-abbrev table_after : Table Entry → Option Entry → Table Entry
-table_after table None = table
-table_after table (Some x) = added table x
 
 -- what is to be proved of a step that leaves this line, this entry to post and these seals
 abbrev Kept : ℕ → List Text → World → ℕ → Line → Option Entry → (ℕ → ℕ) → Type 0
@@ -67,52 +64,54 @@ abbrev KeptAfter : ℕ → List Text → World → ℕ → Stepped → Type 0
 KeptAfter kind sealed w c s = KeptBy kind sealed w c s.answer s.line s.seals
 
 module _ (w : World) (c : ℕ) (line : Line) where
+  abbrev seat : Seat
+  seat = seat_of w.hall c
+
+  -- the world that the step leaves, with this operation in the log, at this moment
+  abbrev left_world : Operation → ℕ → Option Entry → (ℕ → ℕ) → (Text → Seal → Bool) → World
+  left_world op moment post seals genuine = moved w c (with_line seat line) (set w.hall.log.list seat.operation op) moment (table_after w.hall.post post) seals genuine
+
   world_is : (post : Option Entry) (seals : ℕ → ℕ) (genuine : Text → Seal → Bool) (op : Operation) (moment : ℕ)
-      → logged (operation_of w.hall (seat_of w.hall c).operation) (seat_of w.hall c).line line (w.hall.moment + 1) ≡ op
-      → moment_after w.hall.moment (seat_of w.hall c).line line ≡ moment
-      → client_world w c line post seals genuine
-      ≡ moved w c (with_line (seat_of w.hall c) line) (set w.hall.log.list (seat_of w.hall c).operation op) moment (table_after w.hall.post post) seals genuine
-  world_is None seals genuine op moment is at =
-      ap (λ x. moved w c (with_line (seat_of w.hall c) line) (set w.hall.log.list (seat_of w.hall c).operation x) (moment_after w.hall.moment (seat_of w.hall c).line line) w.hall.post seals genuine) is
-      ∙ ap (λ m. moved w c (with_line (seat_of w.hall c) line) (set w.hall.log.list (seat_of w.hall c).operation op) m w.hall.post seals genuine) at
-  world_is (Some e) seals genuine op moment is at =
-      ap (λ x. moved w c (with_line (seat_of w.hall c) line) (set w.hall.log.list (seat_of w.hall c).operation x) (moment_after w.hall.moment (seat_of w.hall c).line line) (added w.hall.post e) seals genuine) is
-      ∙ ap (λ m. moved w c (with_line (seat_of w.hall c) line) (set w.hall.log.list (seat_of w.hall c).operation op) m (added w.hall.post e) seals genuine) at
+      → logged (operation_of w.hall seat.operation) seat.line line (w.hall.moment + 1) ≡ op → moment_after w.hall.moment seat.line line ≡ moment
+      → client_world w c line post seals genuine ≡ left_world op moment post seals genuine
+  world_is post seals genuine op moment is at =
+      ap (λ h. record w { hall = h; genuine = genuine }) (posting_is _ post)
+      ∙ ap (λ x. left_world x (moment_after w.hall.moment seat.line line) post seals genuine) is
+      ∙ ap (λ m. left_world op m post seals genuine) at
 
   module _ (kind : ℕ) (sealed : List Text) (post : Option Entry) where
+    -- a step that seals this text, or none
+    kept_by : (text : Option Text) (seals : ℕ → ℕ) (op : Operation) (moment : ℕ) → text_if_stamped kind seat.line line ≡ text
+        → logged (operation_of w.hall seat.operation) seat.line line (w.hall.moment + 1) ≡ op → moment_after w.hall.moment seat.line line ≡ moment
+        → ((genuine : Text → Seal → Bool) → GenuineThen text w genuine → Holds kind (sealed_with text sealed) (left_world op moment post seals genuine))
+        → Kept kind sealed w c line post seals
+    kept_by text seals op moment told is at held genuine grows =
+        subst (λ t. Holds kind (sealed_with t sealed) (client_world w c line post seals genuine)) (sym told)
+        (subst (Holds kind (sealed_with text sealed)) (sym (world_is post seals genuine op moment is at)) (held genuine (subst (λ t. GenuineThen t w genuine) told grows)))
+
     -- the log stays as it is, and nothing is sealed
-    quiet_kept : has_ended (seat_of w.hall c).line line ≡ false → is_stamping (seat_of w.hall c).line.stage line.stage ≡ false
-        → Holds kind sealed (moved w c (with_line (seat_of w.hall c) line) w.hall.log.list w.hall.moment (table_after w.hall.post post) w.hall.seals w.genuine)
+    quiet_kept : has_ended seat.line line ≡ false → is_stamping seat.line.stage line.stage ≡ false
+        → Holds kind sealed (moved w c (with_line seat line) w.hall.log.list w.hall.moment (table_after w.hall.post post) w.hall.seals w.genuine)
         → Kept kind sealed w c line post w.hall.seals
-    quiet_kept going unstamped held genuine grows =
-        let none : text_if_stamped kind (seat_of w.hall c).line line ≡ None = rw unstamped refl in
-        let same : genuine ≡ w.genuine = subst (λ t. GenuineThen t w genuine) none grows in
-        let world = world_is post w.hall.seals genuine (operation_of w.hall (seat_of w.hall c).operation) w.hall.moment (rw (going, unstamped) refl) (rw going refl)
-        ∙ ap (λ ops. moved w c (with_line (seat_of w.hall c) line) ops w.hall.moment (table_after w.hall.post post) w.hall.seals genuine) (set-get_or w.hall.log.list (seat_of w.hall c).operation no_operation)
-        ∙ ap (λ g. moved w c (with_line (seat_of w.hall c) line) w.hall.log.list w.hall.moment (table_after w.hall.post post) w.hall.seals g) same in
-        subst (λ t. Holds kind (sealed_with t sealed) (client_world w c line post w.hall.seals genuine)) (sym none) (subst (Holds kind sealed) (sym world) held)
+    quiet_kept going unstamped held =
+        kept_by None w.hall.seals (operation_of w.hall seat.operation) w.hall.moment (rw unstamped refl) (rw (going, unstamped) refl) (rw going refl)
+        (λ genuine same. subst₂ (λ ops g. Holds kind sealed (moved w c (with_line seat line) ops w.hall.moment (table_after w.hall.post post) w.hall.seals g))
+        (sym (set-get_or w.hall.log.list seat.operation no_operation)) (sym same) held)
 
     -- the operation ends
-    ends_kept : has_ended (seat_of w.hall c).line line ≡ true → is_stamping (seat_of w.hall c).line.stage line.stage ≡ false
-        → Holds kind sealed (moved w c (with_line (seat_of w.hall c) line) (set w.hall.log.list (seat_of w.hall c).operation (ended_op w (seat_of w.hall c) line)) (w.hall.moment + 1) (table_after w.hall.post post) w.hall.seals w.genuine)
+    ends_kept : has_ended seat.line line ≡ true → is_stamping seat.line.stage line.stage ≡ false
+        → Holds kind sealed (left_world (ended_op w seat line) (w.hall.moment + 1) post w.hall.seals w.genuine)
         → Kept kind sealed w c line post w.hall.seals
-    ends_kept ends unstamped held genuine grows =
-        let none : text_if_stamped kind (seat_of w.hall c).line line ≡ None = rw unstamped refl in
-        let same : genuine ≡ w.genuine = subst (λ t. GenuineThen t w genuine) none grows in
-        let world = world_is post w.hall.seals genuine (ended_op w (seat_of w.hall c) line) (w.hall.moment + 1) (rw ends refl) (rw ends refl)
-        ∙ ap (λ g. moved w c (with_line (seat_of w.hall c) line) (set w.hall.log.list (seat_of w.hall c).operation (ended_op w (seat_of w.hall c) line)) (w.hall.moment + 1) (table_after w.hall.post post) w.hall.seals g) same in
-        subst (λ t. Holds kind (sealed_with t sealed) (client_world w c line post w.hall.seals genuine)) (sym none) (subst (Holds kind sealed) (sym world) held)
+    ends_kept ends unstamped held =
+        kept_by None w.hall.seals (ended_op w seat line) (w.hall.moment + 1) (rw unstamped refl) (rw ends refl) (rw ends refl)
+        (λ genuine same. subst (λ g. Holds kind sealed (left_world (ended_op w seat line) (w.hall.moment + 1) post w.hall.seals g)) (sym same) held)
 
     -- the operation takes its stamp
-    stamps_kept : (seals : ℕ → ℕ) → has_ended (seat_of w.hall c).line line ≡ false → is_stamping (seat_of w.hall c).line.stage line.stage ≡ true
+    stamps_kept : (seals : ℕ → ℕ) → has_ended seat.line line ≡ false → is_stamping seat.line.stage line.stage ≡ true
         → ((genuine : Text → Seal → Bool) → GenuineThen (Some (pair_text kind line.highest)) w genuine
-        → Holds kind (pair_text kind line.highest ∷ sealed) (moved w c (with_line (seat_of w.hall c) line) (set w.hall.log.list (seat_of w.hall c).operation (stamped_op w (seat_of w.hall c) line)) w.hall.moment (table_after w.hall.post post) seals genuine))
+        → Holds kind (pair_text kind line.highest ∷ sealed) (left_world (stamped_op w seat line) w.hall.moment post seals genuine))
         → Kept kind sealed w c line post seals
-    stamps_kept seals going stamps held genuine grows =
-        let text : text_if_stamped kind (seat_of w.hall c).line line ≡ Some (pair_text kind line.highest) = rw stamps refl in
-        let world = world_is post seals genuine (stamped_op w (seat_of w.hall c) line) w.hall.moment (rw (going, stamps) refl) (rw going refl) in
-        subst (λ t. Holds kind (sealed_with t sealed) (client_world w c line post seals genuine)) (sym text)
-        (subst (Holds kind (pair_text kind line.highest ∷ sealed)) (sym world) (held genuine (subst (λ t. GenuineThen t w genuine) text grows)))
+    stamps_kept seals going stamps = kept_by (Some (pair_text kind line.highest)) seals (stamped_op w seat line) w.hall.moment (rw stamps refl) (rw (going, stamps) refl) (rw going refl)
 
 -- PAIR and ACK go to the client addressed
 addressed : (e : Entry) (client : Client) (k : ℕ) → e.kind ≡ k → fits_client (kind_of k) e client ≡ (is_replica_number e.sender && eqb e.addressee client.number)

@@ -21,7 +21,7 @@ use Rattle.model.specs.Delivering.{client_moves, entry_of, has_ended, logged}
 use Rattle.model.proofs.Effects.{Effect, stands, issues, starts, client_steps, replica_steps, calls_off, collects_it, lodges, redeems, meddles, BeginCall, answer_is, hall_is, effect_of}
 use Rattle.model.proofs.ClientEvents.{turned, LineChange, unchanged, stamps_now, ends_now, line_change}
 use Rattle.model.proofs.Invariants.{OwnRule, SeatRule, Holds}
-use Rattle.model.proofs.Posts.{before_end, at_end, set_keeps, seat_same}
+use Rattle.model.proofs.Posts.{before_end, at_end, set_keeps, seat_same, table_after, posting_is}
 use Rattle.model.proofs.StageTests.{opens_busy}
 
 -- nothing began or ended
@@ -189,8 +189,7 @@ module _ (kind : ℕ) (sealed : List Text) (w : World) (holds : Holds kind seale
 
   -- whatever is posted
   log_turned : (post : Option Entry) → LineChange op seat.line line → LogTurn (client_moves w.hall client.number seat line post seals)
-  log_turned None change = log_turn w.hall.post change
-  log_turned (Some x) change = log_turn (added w.hall.post x) change
+  log_turned post change = subst LogTurn (sym (posting_is _ post)) (log_turn (table_after w.hall.post post) change)
 
 -- nothing that is refused begins
 pub refused_begins_none : {V : Type 0} (call : Call V) (f : HallFault) → begins_slip call (refused f) ≡ false
@@ -231,8 +230,7 @@ module _ {V : Type 0} (kind : Kind V) (sealed : List Text) (w : World) (holds : 
       by_turn (stays same) = same_event _ is refl e same
       by_turn (closes closed) = ends client.number (seat_of w.hall client.number).operation seated.low seated.high (ap (λ c. begins_slip c a) is)
           (subst (λ h. EndedLog w.hall h client.number (seat_of w.hall client.number).operation) e closed)
-  event_by (replica_steps number party r is inside room fits place saves None step answer e) = same_event _ is refl e (kept_log _ _ refl refl refl refl)
-  event_by (replica_steps number party r is inside room fits place saves (Some x) step answer e) = same_event _ is refl e (kept_log _ _ refl refl refl refl)
+  event_by (replica_steps number party r is inside room fits place saves post step answer e) = same_event _ is refl (sym (posting_is _ post) ∙ e) (kept_log _ _ refl refl refl refl)
   event_by (calls_off c k is its unended answer e) = same_event _ is refl e (kept_log _ _ refl refl refl refl)
   event_by (collects_it c k u is its over answer e) = same_event _ is refl e (kept_log _ _ refl refl refl refl)
   event_by (lodges c k is its answer e) = same_event _ is refl e (kept_log _ _ refl refl refl refl)

@@ -34,10 +34,10 @@ use Rattle.model.proofs.ClientSteps.{client_low}
 use Rattle.model.proofs.Invariants.{ends, SeatRule, Holds}
 use Rattle.model.proofs.Effects.{hall_is}
 use Rattle.model.proofs.Parties.{client_party}
+use Rattle.model.proofs.Posts.{moved_line}
 use Rattle.model.proofs.Stages.{in_stage}
 use Rattle.model.proofs.SeatTurns.{Onward, next_line}
 use Rattle.model.proofs.Ways.{some_same, either}
-use Rattle.model.proofs.Posts.{seat_same}
 
 -- replica n is counted in a round that goes on
 pub record Counts (before later : Line) (n : ℕ) : Type 0 where
@@ -156,11 +156,7 @@ module _ {V : Type 0} (kind : Kind V) (sealed : List Text) (w : World) (holds : 
   -- what comes of a turn: the seat has the line of the turn
   turned_seat : {a : Answer V} {h' : Hall} (next : Line) (post : Option Entry) (seals : ℕ → ℕ)
       → answers done (client_moves w.hall client.number (seat_of w.hall client.number) next post seals) ≡ record { answer = a; hall = h' } → (seat_of h' client.number).line ≡ next
-  turned_seat next post seals p = subst (λ h. (seat_of h client.number).line ≡ next) (hall_is p) (by_post post)
-    where
-      by_post : (o : Option Entry) → (seat_of (client_moves w.hall client.number (seat_of w.hall client.number) next o seals) client.number).line ≡ next
-      by_post None = ap (λ s. s.line) (seat_same w.hall client.number _ holds.sized (client_low client) high)
-      by_post (Some x) = ap (λ s. s.line) (seat_same w.hall client.number _ holds.sized (client_low client) high)
+  turned_seat next post seals p = subst (λ h. (seat_of h client.number).line ≡ next) (hall_is p) (moved_line w.hall client.number next post seals holds.sized (client_low client) high)
 
   -- a write that takes its stamp has a seal for it
   stamps_sealed : {turn : Turn} (next : Line) → ClientMove w.hall.rules client line e genuine turn → turn ≡ Stamps next → eqb (w.hall.seals (pair_text kind.number next.highest).party) 0 ≡ false

@@ -1,6 +1,6 @@
 -- Posting an entry, and putting a card in a store: what each asks for so that all rules still hold.
 -- The lemmas build the world that comes of it.
-use Rattle.std.proofs.Common.{◌≡◌, ℕ, ◌+◌, ◌-◌, ◌<◌, ◌≤◌, false, cond, ◌&&◌, eqb, List, [], ◌∷◌, ◌++◌, length, get_or, Some, Option, sym, refl, ap, ◌∙◌, subst, arith, length-append, eq-eqb, ne_eqb, set, length-set, get_or-set_other, get_or-set_same, eqb-true}
+use Rattle.std.proofs.Common.{◌≡◌, ℕ, ◌+◌, ◌-◌, ◌<◌, ◌≤◌, false, cond, ◌&&◌, eqb, List, [], ◌∷◌, ◌++◌, length, get_or, Some, Option, sym, refl, ap, ◌∙◌, subst, arith, length-append, eq-eqb, ne_eqb, set, length-set, get_or-set_other, get_or-set_same, eqb-true, None}
 use native.Mathlib.Decide.{dec_lt, ℕ_discrete}
 use lib.ListN.{get_or-append}
 use lib.Seq.{get_or-append_seam}
@@ -11,6 +11,7 @@ use Rattle.wire.specs.declared.pair.Seal.{Seal}
 use Rattle.wire.specs.declared.text.Text.{Text}
 use Rattle.stores.specs.declared.card.Card.{Card}
 use Rattle.stores.specs.Saved.{put}
+use Rattle.clients.specs.declared.line.Line.{Line}
 use Rattle.quorums.specs.Quorums.{Honest}
 use Rattle.histories.specs.Places.{done, next}
 use Rattle.histories.specs.Histories.{Good, Justified}
@@ -20,7 +21,7 @@ use Rattle.halls.specs.declared.operation.Operation.{Operation}
 use Rattle.halls.specs.declared.seat.Seat.{Seat}
 use Rattle.model.specs.Tables.{Table, is_empty, is_full, tail, added, places}
 use Rattle.model.specs.Halls.{Hall, World, no_entry, no_operation, no_seat, seat_of, operation_of, with_post, with_store}
-use Rattle.model.specs.Delivering.{entry_of}
+use Rattle.model.specs.Delivering.{entry_of, posting, client_moves}
 use Rattle.model.proofs.Frames.{card_kept, history_added, later_past, later_pair, later_text, later_views, later_answer, seat_stays, QuietClient}
 use Rattle.model.proofs.Invariants.{views, history, stamp_number, StampedWrite, OverBefore, Sized, CardRule, CardOf, AnswerRule, OperationRule, SettledSomewhere, SeatRule, LogRule, Holds, RollGrows, PostGrows, LogGrows, Later}
 use Rattle.model.proofs.Ways.{both}
@@ -32,6 +33,16 @@ posted_in w x = record w { hall = with_post w.hall (added w.hall.post x) }
 -- the world with another card for replica n
 abbrev pub saved_in : World → (ℕ → Option Card) → Option ℕ → World
 saved_in w place saves = record w { hall = with_store w.hall place saves }
+
+-- the post with what a step answers
+abbrev pub table_after : Table Entry → Option Entry → Table Entry
+table_after table None = table
+table_after table (Some x) = added table x
+
+-- a step changes the post, and nothing else by what it answers
+pub posting_is : (h : Hall) (post : Option Entry) → posting h post ≡ with_post h (table_after h.post post)
+posting_is h None = refl
+posting_is h (Some x) = refl
 
 -- elements of a list with one more behind it
 pub before_end : {T : Type 0} (xs : List T) (x d : T) (n : ℕ) → n < length xs → get_or (xs ++ (x ∷ [])) n d ≡ get_or xs n d
@@ -63,6 +74,13 @@ seat_same h c seat sized low high = let inside : c - 1 < length h.seats = omega 
 
 pub seat_other : (h : Hall) (c d : ℕ) (seat : Seat) → 1 ≤ c → 1 ≤ d → (d ≡ c → ⊥) → get_or (set h.seats (c - 1) seat) (d - 1) no_seat ≡ seat_of h d
 seat_other h c d seat low low' ne = get_or-set_other h.seats (c - 1) (d - 1) seat no_seat (λ e. ne (omega arith))
+
+-- the seats after a step of client c
+pub moved_seats : (h : Hall) (c : ℕ) (line : Line) (post : Option Entry) (seals : ℕ → ℕ) → (client_moves h c (seat_of h c) line post seals).seats ≡ set h.seats (c - 1) (record (seat_of h c) { line = line })
+moved_seats h c line post seals = ap (λ x. x.seats) (posting_is _ post)
+
+pub moved_line : (h : Hall) (c : ℕ) (line : Line) (post : Option Entry) (seals : ℕ → ℕ) → Sized h → 1 ≤ c → c ≤ h.rules.clients → (seat_of (client_moves h c (seat_of h c) line post seals) c).line ≡ line
+moved_line h c line post seals sized low high = ap (λ s. (get_or s (c - 1) no_seat).line) (moved_seats h c line post seals) ∙ ap (λ s. s.line) (seat_same h c _ sized low high)
 
 -- each seat keeps its rule: that of client c, and the others
 pub seats_with : {kind : ℕ} {h : Hall} {w' : World} (c : ℕ) (seat : Seat) → Sized h → 1 ≤ c → c ≤ h.rules.clients → SeatRule kind w' c seat

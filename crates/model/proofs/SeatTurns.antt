@@ -27,7 +27,7 @@ use Rattle.model.proofs.Effects.{Effect, stands, issues, starts, client_steps, r
 use Rattle.model.proofs.Events.{begins_slip, refused_begins_none, slip_same}
 use Rattle.model.proofs.Invariants.{Holds}
 use Rattle.model.proofs.StageTests.{over_shut, idle_shut}
-use Rattle.model.proofs.Posts.{seat_same, seat_other}
+use Rattle.model.proofs.Posts.{seat_same, seat_other, moved_seats, posting_is}
 
 -- a line goes on to another: rounds do not fall, and a round that is still open is in the stage that it was in
 -- and has counted all that it had
@@ -138,10 +138,6 @@ module _ {V : Type 0} (kind : Kind V) (sealed : List Text) (w : World) (holds : 
       (λ same. subst (λ m. SeatTurn kind w call a h' m) same
       (keeps (ap (λ s. s.line) (here_set d seat low' high' e) ∙ line) (ap (λ s. s.operation) (here_set d seat low' high' e) ∙ operation)))
 
-  moved_seats : (d : ℕ) (line : Line) (seals : ℕ → ℕ) (post : Option Entry) → (client_moves w.hall d (seat_of w.hall d) line post seals).seats ≡ set w.hall.seats (d - 1) (record (seat_of w.hall d) { line = line })
-  moved_seats d line seals None = refl
-  moved_seats d line seals (Some x) = refl
-
   pub seat_turn : Effect kind w call a h' → SeatTurn kind w call a h' c
   seat_turn (stands f is e) = seats_kept (ap (λ h. h.seats) (sym e))
   seat_turn (issues set is allowed p) = seats_kept (ap (λ h. h.seats) (sym (hall_is p)))
@@ -151,7 +147,7 @@ module _ {V : Type 0} (kind : Kind V) (sealed : List Text) (w : World) (holds : 
       (λ same. subst (λ m. SeatTurn kind w call a h' m) same
       (begins_here allowed.idle (ap (λ s. s.line.round) (here_set client.number _ allowed.seated.low allowed.seated.high e))))
   seat_turn (client_steps number client is seated room fits line post seals step answer e) =
-      let s = ap (λ h. h.seats) (sym e) ∙ moved_seats client.number line seals post in
+      let s = ap (λ h. h.seats) (sym e) ∙ moved_seats w.hall client.number line post seals in
       one_seat client.number _ seated.low seated.high s
       (λ same. subst (λ m. SeatTurn kind w call a h' m) same
       (turns number client post is
@@ -159,8 +155,7 @@ module _ {V : Type 0} (kind : Kind V) (sealed : List Text) (w : World) (holds : 
       (sym (ap (λ z. z.line) (here_set client.number _ seated.low seated.high s)))
       (turned w kind.number client (entry_of w.hall number) line post seals step))
       (ap (λ z. z.operation) (here_set client.number _ seated.low seated.high s))))
-  seat_turn (replica_steps number party r is inside room fits place saves None step answer e) = seats_kept (ap (λ h. h.seats) (sym e))
-  seat_turn (replica_steps number party r is inside room fits place saves (Some x) step answer e) = seats_kept (ap (λ h. h.seats) (sym e))
+  seat_turn (replica_steps number party r is inside room fits place saves post step answer e) = seats_kept (ap (λ h. h.seats) (sym e ∙ posting_is _ post))
   seat_turn (calls_off d k is its unended answer e) =
       let s = ap (λ h. h.seats) (sym e) in
       one_seat d _ its.seated.low its.seated.high s

@@ -24,7 +24,7 @@ use Rattle.model.proofs.ClientKeeps.{client_keeps, sealed_with}
 use Rattle.model.proofs.Effects.{Effect, stands, issues, starts, client_steps, replica_steps, calls_off, collects_it, lodges, redeems, meddles, BeginCall, by_read, by_write, Seated, answer_is, hall_is, effect_of}
 use Rattle.model.proofs.Invariants.{Holds, UnforgedNow}
 use Rattle.model.proofs.IssueKeeps.{issue_keeps}
-use Rattle.model.proofs.Posts.{open_keeps, seat_same}
+use Rattle.model.proofs.Posts.{open_keeps, posting_is, moved_line}
 use Rattle.model.proofs.ReplicaKeeps.{replica_keeps, replica_world}
 use Rattle.model.proofs.ReplicaPosts.{replica_posts}
 use Rattle.model.proofs.SlipKeeps.{one_seat_keeps, freed_rule, lodged_rule}
@@ -101,15 +101,10 @@ module _ {V : Type 0} (kind : Kind V) (sealed : List Text) (w : World) (holds : 
   lodging : {c : ℕ} (lodged : Option ℕ) → Seated w c → Holds kind.number sealed (in_hall w (with_seat w.hall c (holding_slip (seat_of w.hall c) lodged)))
   lodging {c} lodged s = one_seat_keeps kind.number sealed w c (holding_slip (seat_of w.hall c) lodged) w.next w.given holds s.low s.high (lodged_rule lodged (holds.seats c s.low s.high))
 
-  -- the line of a client that made a step
-  new_line : (client : Client) (line : Line) (post : Option Entry) (seals : ℕ → ℕ) → Seated w client.number → (seat_of (client_moves w.hall client.number (seat_of w.hall client.number) line post seals) client.number).line ≡ line
-  new_line client line None seals s = ap (λ z. z.line) (seat_same w.hall client.number _ holds.sized s.low s.high)
-  new_line client line (Some x) seals s = ap (λ z. z.line) (seat_same w.hall client.number _ holds.sized s.low s.high)
-
   -- no line changes where a replica made a step
   line_kept : (place : ℕ → Option Card) (saves : Option ℕ) (post : Option Entry) (party : ℕ) → text_if_stamped kind.number (seat_of w.hall party).line (seat_of (posting (with_store w.hall place saves) post) party).line ≡ None
-  line_kept place saves None party = stamps_not kind.number (seat_of w.hall party).line
-  line_kept place saves (Some x) party = stamps_not kind.number (seat_of w.hall party).line
+  line_kept place saves post party =
+      ap (λ h. text_if_stamped kind.number (seat_of w.hall party).line (seat_of h party).line) (posting_is _ post) ∙ stamps_not kind.number (seat_of w.hall party).line
 
   replica_hall : (place : ℕ → Option Card) (saves : Option ℕ) (post : Option Entry) → Holds kind.number sealed (replica_world w place saves post) → Holds kind.number sealed (in_hall w (posting (with_store w.hall place saves) post))
   replica_hall place saves None done_so = done_so
@@ -135,7 +130,7 @@ module _ {V : Type 0} (kind : Kind V) (sealed : List Text) (w : World) (holds : 
   keeps_by (client_steps number client is seated room fits line post seals step answer e) =
       subst (λ c. KeptSo (sealed_by kind w a h' c) h') (sym is)
       (subst (λ h. KeptSo (text_if_stamped kind.number (seat_of w.hall client.number).line (seat_of h client.number).line) h) e
-      (subst (λ l. KeptSo (text_if_stamped kind.number (seat_of w.hall client.number).line l) (client_moves w.hall client.number (seat_of w.hall client.number) line post seals)) (sym (new_line client line post seals seated))
+      (subst (λ l. KeptSo (text_if_stamped kind.number (seat_of w.hall client.number).line l) (client_moves w.hall client.number (seat_of w.hall client.number) line post seals)) (sym (moved_line w.hall client.number line post seals holds.sized seated.low seated.high))
       (client_keeps kind.number sealed w small holds unforged number room.posted client seated.high room.room room.moment fits line post seals step genuine)))
   keeps_by (replica_steps number party r is inside room fits place saves post step answer e) =
       kept_plain (ap (sealed_by kind w a h') is ∙ ap (λ h. text_if_stamped kind.number (seat_of w.hall party).line (seat_of h party).line) (sym e) ∙ line_kept place saves post party)
