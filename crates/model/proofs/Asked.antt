@@ -13,7 +13,7 @@ use Rattle.histories.proofs.Places.{posted_map}
 use Rattle.histories.proofs.Rounds.{Asks, by_read, by_write, asks_fresh}
 use Rattle.model.specs.Halls.{Hall, no_entry}
 use Rattle.model.specs.Delivering.{entry_of}
-use Rattle.model.proofs.Frames.{posted_at}
+use Rattle.model.proofs.Frames.{posted_at, history_at}
 use Rattle.model.proofs.Invariants.{history}
 
 -- an entry of this shape stands at this place
@@ -63,8 +63,4 @@ unfolding history
 asked_rise {v} {c} {k} {r} h m n lt inside g a b =
     let list = h.post.list in
     asks_rise (reverse list) (length list - 1 - n) (length list - 1 - m) no_entry (omega arith) (omega (arith, length-reverse list)) g
-    (subst (Asks c r) (sym (at n inside)) b) (subst (Asks c k) (sym (at m (omega arith))) a)
-  where
-    at : (n : ℕ) → n < length h.post.list → get_or (reverse h.post.list) (length h.post.list - 1 - n) no_entry ≡ entry_of h n
-    at n lt = let back : length h.post.list - 1 - (length h.post.list - 1 - n) ≡ n = omega arith in
-        get_or-reverse h.post.list (length h.post.list - 1 - n) no_entry (omega arith) ∙ ap (λ p. get_or h.post.list p no_entry) back
+    (subst (Asks c r) (sym (history_at h n inside)) b) (subst (Asks c k) (sym (history_at h m (omega arith))) a)

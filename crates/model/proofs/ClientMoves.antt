@@ -1,7 +1,7 @@
 -- What a client can do with an entry: the ways through its step that change its line or post something.
 -- The view is told from the verdict alone.
 use Rattle.std.proofs.Common.{◌≡◌, ℕ, ◌+◌, ◌<◌, max, Bool, true, false, not, ◌&&◌, eqb, ltb, leb, ◌⊎◌, Some, None, Ok, Option, sym, refl, ap, inl, inr}
-use Rattle.std.proofs.lemmas.Bool.{eqb-true, leb-false, not-false}
+use Rattle.std.proofs.lemmas.Bool.{eqb-true, leb-false, not-false, and_parts}
 use Rattle.kinds.specs.declared.word.Word.{Word}
 use Rattle.wire.specs.declared.entry.Entry.{Entry}
 use Rattle.wire.specs.declared.entry.EntryKind.{EntryKind}
@@ -20,7 +20,7 @@ use Rattle.clients.specs.declared.turn.Turn.TheVariants.{Moves, Stamps}
 use Rattle.clients.specs.Lines.{no_pair, is_open, is_reading, is_writing, opened, configured_as, ended, counting, hearing, stamped}
 use Rattle.clients.specs.Turns.{closing, is_quorum, pair_heard, ack_heard, on_pair, on_pair_from, on_ack, on_ack_from, on_config, on_behind, reopening, decided_by_kind, decided, read_of, write_of, unsealed}
 use Rattle.model.proofs.ReplicaMoves.{kind_known}
-use Rattle.model.proofs.Ways.{way, not_ok, ok_same, both}
+use Rattle.model.proofs.Ways.{way, not_ok, ok_same}
 use Rattle.model.proofs.StageTests.{reading_is}
 
 -- PAIR for the open round of reading, from a member that is not counted yet
@@ -111,8 +111,8 @@ module _ (rules : Rules) (client : Client) (line : Line) (e : Entry) (genuine : 
   pair_view k p =
       way (not (is_reading line.stage && eqb e.round line.round)) p
       (λ other q. not_ok q)
-      (λ awaited q. from_view (both (is_reading line.stage) (eqb e.round line.round) (not-false _ awaited)).first
-      (both (is_reading line.stage) (eqb e.round line.round) (not-false _ awaited)).second
+      (λ awaited q. from_view (and_parts (is_reading line.stage) (eqb e.round line.round) (not-false _ awaited)).0
+      (and_parts (is_reading line.stage) (eqb e.round line.round) (not-false _ awaited)).1
       (sender_within line.configuration.set.0 e.sender) refl q)
     where
       from_view : is_reading line.stage ≡ true → eqb e.round line.round ≡ true
@@ -136,8 +136,8 @@ module _ (rules : Rules) (client : Client) (line : Line) (e : Entry) (genuine : 
   ack_view k p =
       way (not (is_writing line.stage && eqb e.round line.round)) p
       (λ other q. not_ok q)
-      (λ awaited q. from_view (both (is_writing line.stage) (eqb e.round line.round) (not-false _ awaited)).first
-      (both (is_writing line.stage) (eqb e.round line.round) (not-false _ awaited)).second
+      (λ awaited q. from_view (and_parts (is_writing line.stage) (eqb e.round line.round) (not-false _ awaited)).0
+      (and_parts (is_writing line.stage) (eqb e.round line.round) (not-false _ awaited)).1
       (sender_within line.configuration.set.0 e.sender) refl q)
     where
       from_view : is_writing line.stage ≡ true → eqb e.round line.round ≡ true

@@ -1,7 +1,7 @@
 -- What each call did: it was refused and left the hall as it was, or it is one of these.
 -- Told once from the definitions of the calls, in a world that meets the rules; what is proved of all calls starts from here.
 use Rattle.std.proofs.Common.{◌≡◌, ℕ, ◌+◌, ◌<◌, ◌≤◌, true, false, not, ◌&&◌, ◌||◌, eqb, ltb, leb, length, is_some, Some, None, Ok, Err, Option, Result, sym, refl, ap, ◌∙◌, subst, arith, ltb-true, leb-true, eqb-true}
-use Rattle.std.proofs.lemmas.Bool.{not-false}
+use Rattle.std.proofs.lemmas.Bool.{not-false, not-true, and_parts, or_parts}
 use borrow.Author.Tests.{eqb-false}
 use Rattle.kinds.specs.declared.word.Word.{Word}
 use Rattle.wire.specs.declared.entry.Entry.{Entry}
@@ -32,7 +32,7 @@ use Rattle.model.specs.Issuing.{issue_called, issue_done, issuing, is_right_set,
 use Rattle.model.specs.Meddling.{meddle_called, meddle_by, sent_by}
 use Rattle.model.specs.Slips.{call_off_called, collect_called, collecting, lodge_called, redeem_called, redeeming, is_its_slip, freed, holding_slip}
 use Rattle.model.proofs.Parties.{ReplicaIn, client_in, replica_in}
-use Rattle.model.proofs.Ways.{way, way_in, both, neither, not_both}
+use Rattle.model.proofs.Ways.{way, way_in, not_both}
 
 -- the call that begins an operation of client c with this word
 pub data BeginCall {V : Type 0} (kind : Kind V) (call : Call V) (c : ℕ) (word : Option Word) : Type 0 where
@@ -108,6 +108,17 @@ answer_is p = sym (ap (λ o. o.answer) p)
 pub hall_is : {V : Type 0} {a b : Answer V} {h h' : Hall} → ◌≡◌ {A = Outcome V} (record { answer = a; hall = h }) (record { answer = b; hall = h' }) → h ≡ h'
 hall_is p = ap (λ o. o.hall) p
 
+-- the client of a number in its range
+seated_by : (w : World) (c : ℕ) → (leb 1 c && leb c w.hall.rules.clients) ≡ true → Seated w c
+seated_by w c t = let r = and_parts (leb 1 c) (leb c w.hall.rules.clients) t in record { low = leb-true _ _ r.0; high = leb-true _ _ r.1 }
+
+-- the client of a slip
+pub its_slip : (w : World) (c k : ℕ) → is_its_slip w.hall c k ≡ true → ItsSlip w c k
+its_slip w c k t =
+    let b = and_parts (leb 1 c && leb c w.hall.rules.clients) (not (is_idle (seat_of w.hall c).line.stage) && eqb (seat_of w.hall c).operation k) t in
+    let s = and_parts (not (is_idle (seat_of w.hall c).line.stage)) (eqb (seat_of w.hall c).operation k) b.1 in
+    record { seated = seated_by w c b.0; busy = not-true _ s.0; operation = eqb-true _ _ s.1 }
+
 module _ {V : Type 0} (kind : Kind V) (w : World) (a : Answer V) (h' : Hall) where
   stood : (call : Call V) (f : HallFault) → refuses f w.hall ≡ record { answer = a; hall = h' } → Effect kind w call a h'
   stood call f p = stands f (answer_is p) (hall_is p)
@@ -120,7 +131,7 @@ module _ {V : Type 0} (kind : Kind V) (w : World) (a : Answer V) (h' : Hall) whe
       (λ few z. way (is_full w.hall.roll || is_full w.hall.post) z (λ u y. stood (issue set) _ y)
       (λ room y. way_in (λ i. issue_done i w.hall) (not (ltb w.hall.source.newest 4294967295)) y (λ u x. stood (issue set) _ x)
       (λ u x. way_in (λ s. issue_done (signing s w.hall.source set) w.hall) (eqb (w.hall.seals 0) 0) x (λ v d. stood (issue set) _ d)
-      (λ v d. let r = neither (is_full w.hall.roll) (is_full w.hall.post) room in
+      (λ v d. let r = or_parts (is_full w.hall.roll) (is_full w.hall.post) room in
       issues set refl (record { right = not-false _ right; few = few; roll_room = r.0; post_room = r.1 }) d))))))
       (λ t q. stood (issue set) _ q)
 
@@ -138,8 +149,8 @@ module _ {V : Type 0} (kind : Kind V) (w : World) (a : Answer V) (h' : Hall) whe
           (λ u x. stood call _ x)
           (λ u x. way_in (λ b. begin_done b client word w.hall) (is_some word && eqb (w.hall.seals client.number) 0) x
           (λ v d. stood call _ d)
-          (λ v d. let r = neither (is_full w.hall.log) (is_full w.hall.post || not (has_moment w.hall)) room in
-          let r2 = neither (is_full w.hall.post) (not (has_moment w.hall)) r.1 in
+          (λ v d. let r = or_parts (is_full w.hall.log) (is_full w.hall.post || not (has_moment w.hall)) room in
+          let r2 = or_parts (is_full w.hall.post) (not (has_moment w.hall)) r.1 in
           starts client word (named client.number number)
           (record {
             seated = seated;
@@ -170,7 +181,7 @@ module _ {V : Type 0} (kind : Kind V) (w : World) (a : Answer V) (h' : Hall) whe
     where
       -- what the post and the moments must have room for
       room_for : number < length w.hall.post.list → (is_full w.hall.post || not (has_moment w.hall)) ≡ false → Deliverable w number
-      room_for lt room = let r = neither (is_full w.hall.post) (not (has_moment w.hall)) room in record { posted = lt; room = r.0; moment = not-false _ r.1 }
+      room_for lt room = let r = or_parts (is_full w.hall.post) (not (has_moment w.hall)) room in record { posted = lt; room = r.0; moment = not-false _ r.1 }
 
       by_saved : (r : Replica) → ReplicaIn w.hall.rules party r → Deliverable w number → fits_replica (kind_of (entry_of w.hall number).kind) (entry_of w.hall number) r ≡ true → (s : ReplicaStepped) → replica_step_of w kind.number r (entry_of w.hall number) ≡ s
           → (o : Result (Option Entry) ReplicaFault) → s.answer ≡ o → by_replica o s.place s.saves number w.hall ≡ record { answer = a; hall = h' } → Effect kind w (deliver number party) a h'
@@ -198,27 +209,12 @@ module _ {V : Type 0} (kind : Kind V) (w : World) (a : Answer V) (h' : Hall) whe
           (λ room s. way (not (fits_replica (kind_of (entry_of w.hall number).kind) (entry_of w.hall number) r)) s (λ u z. stood (deliver number party) _ z)
           (λ fits z. by_saved r (replica_in w.hall.rules party r is) (room_for lt room) (not-false _ fits) (replica_step_of w kind.number r (entry_of w.hall number)) refl _ refl z))
 
-  -- the client of a slip
-  its_slip : (c k : ℕ) → is_its_slip w.hall c k ≡ true → ItsSlip w c k
-  its_slip c k t =
-      let b = both (leb 1 c && leb c w.hall.rules.clients) (not (is_idle (seat_of w.hall c).line.stage) && eqb (seat_of w.hall c).operation k) t in
-      let r = both (leb 1 c) (leb c w.hall.rules.clients) b.first in
-      let s = both (not (is_idle (seat_of w.hall c).line.stage)) (eqb (seat_of w.hall c).operation k) b.second in record {
-        seated = record { low = leb-true _ _ r.first; high = leb-true _ _ r.second };
-        busy = not-true _ s.first;
-        operation = eqb-true _ _ s.second;
-      }
-    where
-      not-true : (b : Rattle.std.proofs.Common.Bool) → not b ≡ true → b ≡ false
-      not-true true q = sym q
-      not-true false q = refl
-
   call_off_effect : (c k : ℕ) → call_off_called w c k ≡ record { answer = a; hall = h' } → Effect kind w (call_off c k) a h'
   call_off_effect c k p =
       way (has_its_tables w.hall) p
       (λ t q. way (not (is_its_slip w.hall c k)) q (λ u s. stood (call_off c k) _ s)
       (λ u s. way (is_over (seat_of w.hall c).line.stage) s (λ v z. stood (call_off c k) _ z)
-      (λ v z. calls_off c k refl (its_slip c k (not-false _ u)) v (answer_is z) (hall_is z))))
+      (λ v z. calls_off c k refl (its_slip w c k (not-false _ u)) v (answer_is z) (hall_is z))))
       (λ t q. stood (call_off c k) _ q)
 
   collect_effect : (c k : ℕ) → collect_called kind w c k ≡ record { answer = a; hall = h' } → Effect kind w (collect c k) a h'
@@ -231,13 +227,13 @@ module _ {V : Type 0} (kind : Kind V) (w : World) (a : Answer V) (h' : Hall) whe
     where
       by_value : is_its_slip w.hall c k ≡ true → is_over (seat_of w.hall c).line.stage ≡ true → (o : Option V) → collecting o w.hall c (seat_of w.hall c).line.highest ≡ record { answer = a; hall = h' } → Effect kind w (collect c k) a h'
       by_value its over None z = stood (collect c k) _ z
-      by_value its over (Some v) z = collects_it c k v refl (its_slip c k its) over (answer_is z) (hall_is z)
+      by_value its over (Some v) z = collects_it c k v refl (its_slip w c k its) over (answer_is z) (hall_is z)
 
   lodge_effect : (c k : ℕ) → lodge_called w c k ≡ record { answer = a; hall = h' } → Effect kind w (lodge c k) a h'
   lodge_effect c k p =
       way (has_its_tables w.hall) p
       (λ t q. way (not (is_its_slip w.hall c k)) q (λ u s. stood (lodge c k) _ s)
-      (λ u s. lodges c k refl (its_slip c k (not-false _ u)) (answer_is s) (hall_is s)))
+      (λ u s. lodges c k refl (its_slip w c k (not-false _ u)) (answer_is s) (hall_is s)))
       (λ t q. stood (lodge c k) _ q)
 
   redeem_effect : (c : ℕ) → redeem_called w c ≡ record { answer = a; hall = h' } → Effect kind w (redeem c) a h'
@@ -248,9 +244,7 @@ module _ {V : Type 0} (kind : Kind V) (w : World) (a : Answer V) (h' : Hall) whe
     where
       by_lodged : (leb 1 c && leb c w.hall.rules.clients) ≡ true → (o : Option ℕ) → redeeming o w.hall c ≡ record { answer = a; hall = h' } → Effect kind w (redeem c) a h'
       by_lodged u None s = stood (redeem c) _ s
-      by_lodged u (Some k) s =
-          let r = both (leb 1 c) (leb c w.hall.rules.clients) u in
-          redeems c k refl (record { low = leb-true _ _ r.first; high = leb-true _ _ r.second }) (answer_is s) (hall_is s)
+      by_lodged u (Some k) s = redeems c k refl (seated_by w c u) (answer_is s) (hall_is s)
 
   meddle_effect : (party : ℕ) (e : Entry) → meddle_called w party e ≡ record { answer = a; hall = h' } → Effect kind w (meddle party e) a h'
   meddle_effect party e p =

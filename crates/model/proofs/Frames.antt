@@ -51,15 +51,18 @@ posted_at [] i d lt = absurd (omega arith)
 posted_at (x ∷ h) zero d lt = here refl
 posted_at (x ∷ h) (suc i) d lt = there (posted_at h i d (omega arith))
 
+-- the entry of a number stands as far from the front of the history as from the end of the post
+pub history_at : (h : Hall) (n : ℕ) → n < length h.post.list → get_or (history h) (length h.post.list - 1 - n) no_entry ≡ entry_of h n
+unfolding history
+history_at h n lt =
+    let place : ℕ = length h.post.list - 1 - n in
+    let back : length h.post.list - 1 - place ≡ n = omega arith in
+    get_or-reverse h.post.list place no_entry (omega arith) ∙ ap (λ m. get_or h.post.list m no_entry) back
+
 -- every entry of the post stands in the history
 pub posted_entry : (h : Hall) (n : ℕ) → n < length h.post.list → Posted (λ y. y ≡ entry_of h n) (history h)
 unfolding history
-posted_entry h n lt =
-    let list = h.post.list in
-    let place : ℕ = length list - 1 - n in
-    let back : length list - 1 - place ≡ n = omega arith in
-    posted_map (λ x e. e ∙ get_or-reverse list place no_entry (omega arith) ∙ ap (λ m. get_or list m no_entry) back)
-    (posted_at (reverse list) place no_entry (omega (arith, length-reverse list)))
+posted_entry h n lt = posted_map (λ x e. e ∙ history_at h n lt) (posted_at (reverse h.post.list) (length h.post.list - 1 - n) no_entry (omega (arith, length-reverse h.post.list)))
 
 -- so one of a shape does
 pub posted_as : {P : Entry → Type 0} (h : Hall) (n : ℕ) → n < length h.post.list → P (entry_of h n) → Posted P (history h)

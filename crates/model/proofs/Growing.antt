@@ -2,6 +2,7 @@
 -- From the events of calls, over as many calls as there are.
 use Rattle.std.proofs.Common.{◌≡◌, ℕ, ◌<◌, ◌≤◌, true, length, sym, refl, ap, ◌∙◌, subst, arith}
 use native.Mathlib.Decide.{ℕ_discrete, dec_lt}
+use Rattle.halls.specs.declared.operation.Operation.{Operation}
 use Rattle.model.specs.Halls.{Hall, Kind, no_operation, operation_of, end_of}
 use Rattle.model.specs.Answers.{Answer}
 use Rattle.model.specs.Calls.{Call}
@@ -93,10 +94,10 @@ event_grows {h = h} {h' = h'} (ends c k low high none e) = record {
   marked = e.marked_same;
   longer = omega (arith, e.same_length);
   moment = omega (arith, e.next_moment);
-  client = λ j lt. kept_at (λ z. z.client) e.client j;
-  writes = λ j lt. kept_at (λ z. z.writes) e.writes j;
-  began = λ j lt. kept_at (λ z. z.began) e.began j;
-  word = λ j lt y. word_at j y (ℕ_discrete j k);
+  client = λ j lt. kept_at (λ z. z.client) j (λ is. e.client);
+  writes = λ j lt. kept_at (λ z. z.writes) j (λ is. e.writes);
+  began = λ j lt. kept_at (λ z. z.began) j (λ is. e.began);
+  word = λ j lt y. kept_at (λ z. z.pair.word) j (λ is. e.word (subst (λ m. (operation_of h m).writes ≡ true) is y));
   ended = λ j o. ap (λ z. end_of z) (e.others j (not_it j o));
   pair = λ j o. ap (λ z. z.pair) (e.others j (not_it j o));
 }
@@ -104,13 +105,9 @@ event_grows {h = h} {h' = h'} (ends c k low high none e) = record {
     not_it : (j : ℕ) → 0 < end_of (operation_of h j) → j ≡ k → ⊥
     not_it j o same = omega (arith, subst (λ m. 0 < end_of (operation_of h m)) same o, e.unended)
 
-    kept_at : {X : Type 0} (f : Rattle.halls.specs.declared.operation.Operation.Operation → X) → f (operation_of h' k) ≡ f (operation_of h k) → (j : ℕ) → f (operation_of h' j) ≡ f (operation_of h j)
-    kept_at f at j = by_place (ℕ_discrete j k)
+    kept_at : {X : Type 0} (f : Operation → X) (j : ℕ) → (j ≡ k → f (operation_of h' k) ≡ f (operation_of h k)) → f (operation_of h' j) ≡ f (operation_of h j)
+    kept_at f j at = by_place (ℕ_discrete j k)
       where
         by_place : Dec (j ≡ k) → f (operation_of h' j) ≡ f (operation_of h j)
-        by_place (yes same) = subst (λ m. f (operation_of h' m) ≡ f (operation_of h m)) (sym same) at
+        by_place (yes same) = subst (λ m. f (operation_of h' m) ≡ f (operation_of h m)) (sym same) (at same)
         by_place (no ne) = ap f (e.others j ne)
-
-    word_at : (j : ℕ) → (operation_of h j).writes ≡ true → Dec (j ≡ k) → (operation_of h' j).pair.word ≡ (operation_of h j).pair.word
-    word_at j y (yes same) = subst (λ m. (operation_of h m).writes ≡ true → (operation_of h' m).pair.word ≡ (operation_of h m).pair.word) (sym same) e.word y
-    word_at j y (no ne) = ap (λ z. z.pair.word) (e.others j ne)

@@ -1,7 +1,7 @@
 -- Issue keeps every rule: one more configuration in the roll, its text sealed, CONFIG in the post.
 -- The set has been found right, and roll and post have room.
 use Rattle.std.proofs.Common.{◌≡◌, ℕ, ◌+◌, ◌*◌, ◌^◌, ◌<◌, ◌≤◌, Bool, true, false, ◌&&◌, eqb, ◌⊎◌, List, [], ◌∷◌, ◌++◌, length, get_or, sym, refl, ap, ◌∙◌, subst, inl, inr, le_of_eq, arith, length-append, eqb-true, leb-true}
-use Rattle.std.proofs.lemmas.Bool.{not-false}
+use Rattle.std.proofs.lemmas.Bool.{not-false, and_parts}
 use mathlib.Core.List.Memᴰ
 use mathlib.Core.List.{Memᴰ}
 use native.Mathlib.Decide.{dec_lt}
@@ -26,7 +26,6 @@ use Rattle.model.proofs.Frames.{history_added, later_views, card_stays, quiet_be
 use Rattle.model.proofs.Invariants.{views, history, issued_as, Sized, RollRule, KnownText, of_configuration, Holds, Later}
 use Rattle.model.proofs.Opening.{right_below}
 use Rattle.model.proofs.Posts.{before_end, at_end, post_added, log_stays, places_added, answers_posted, no_answer, log_later}
-use Rattle.model.proofs.Ways.{both}
 
 -- the world after the source has issued a configuration
 abbrev pub issue_world : World → Source → Configuration → (ℕ → ℕ) → ℕ → (Text → Seal → Bool) → (Text → Seal) → World
@@ -74,7 +73,7 @@ module _ (kind : ℕ) (sealed : List Text) (w : World) (holds : Holds kind seale
           → ones (get_or (w.hall.roll.list ++ (c ∷ [])) e no_configuration).set.0 ≡ 3 * w.hall.rules.faults + 1
       sized e (inl old) = subst (λ z. ones z.set.0 ≡ 3 * w.hall.rules.faults + 1) (sym (before_end w.hall.roll.list c no_configuration e old)) (holds.roll.sound.sized e old)
       sized e (inr new) = subst (λ m. ones (get_or (w.hall.roll.list ++ (c ∷ [])) m no_configuration).set.0 ≡ 3 * w.hall.rules.faults + 1) new
-          (subst (λ z. ones z.set.0 ≡ 3 * w.hall.rules.faults + 1) (sym (at_end w.hall.roll.list c no_configuration)) (eqb-true _ _ (both _ _ right).first))
+          (subst (λ z. ones z.set.0 ≡ 3 * w.hall.rules.faults + 1) (sym (at_end w.hall.roll.list c no_configuration)) (eqb-true _ _ (and_parts _ _ right).0))
 
       marked : (e : ℕ) → (e < length w.hall.roll.list) ⊎ (length w.hall.roll.list ≡ e)
           → ones (bit_and (get_or (w.hall.roll.list ++ (c ∷ [])) e no_configuration).set.0 w.hall.marked) ≤ w.hall.rules.faults

@@ -1,6 +1,7 @@
 -- One order for the operations of a run: the order of stamps in the final log, told by positions.
 -- The log's rules give the timestamps that the ordering theorem asks for.
 use Rattle.std.proofs.Common.{◌≡◌, ℕ, zero, suc, ◌+◌, ◌*◌, ◌<◌, ◌≤◌, Bool, true, false, cond, ◌&&◌, ◌||◌, eqb, ltb, ◌⊎◌, List, [], ◌∷◌, ◌++◌, map, length, is_some, Some, None, Option, sym, refl, ap, ◌∙◌, subst, inl, inr, arith, ltb-true, lt-ltb, eq-eqb, ne_eqb}
+use Rattle.std.proofs.lemmas.Bool.{and_parts}
 use mathlib.Core.List.Memᴰ
 use mathlib.Core.List.Memᴰ.{head as here}
 use mathlib.Core.List.Memᴰ.{tail as there}
@@ -21,7 +22,7 @@ use Rattle.model.proofs.Invariants.{stamp_number, StampedWrite, KnownPair, the_o
 use Rattle.model.proofs.RunKeeps.{sealed_at, holds_at}
 use Rattle.model.proofs.Trace.{slips_there, grows, StartOf, started, operation_started, Told, told, found_start, found_end, opening_stays, end_client, ended_valued, ended_told, end_seen}
 use Rattle.wire.specs.declared.text.Text.{Text}
-use Rattle.model.proofs.Ways.{both, some_same, not_some}
+use Rattle.model.proofs.Ways.{some_same, not_some}
 
 -- whether the operation stands in the order: it has ended, or it is a write that has taken its stamp
 abbrev pub standing : Hall → ℕ → Bool
@@ -46,7 +47,7 @@ stands h k lt t = by_test (ltb 0 (end_of (operation_of h k))) refl t
   where
     by_test : (b : Bool) → ltb 0 (end_of (operation_of h k)) ≡ b → (b || ((operation_of h k).writes && ltb 0 (operation_of h k).pair.stamp.count)) ≡ true → Stands h k
     by_test true is u = as_ended (ltb-true 0 _ is)
-    by_test false is u = let p = both (operation_of h k).writes (ltb 0 (operation_of h k).pair.stamp.count) u in as_write (record { logged = lt; writes = p.first; stamped = ltb-true 0 _ p.second })
+    by_test false is u = let p = and_parts (operation_of h k).writes (ltb 0 (operation_of h k).pair.stamp.count) u in as_write (record { logged = lt; writes = p.0; stamped = ltb-true 0 _ p.1 })
 
 ended_stands : (h : Hall) (k : ℕ) → 0 < end_of (operation_of h k) → standing h k ≡ true
 ended_stands h k o = rw (lt-ltb 0 (end_of (operation_of h k)) o)

@@ -1,6 +1,7 @@
 -- What an opening leaves meets every rule: nothing is posted, logged or sealed yet.
 -- The world has any sealer and any store that the opening could leave.
 use Rattle.std.proofs.Common.{◌≡◌, ℕ, ◌+◌, ◌*◌, ◌/◌, ◌^◌, ◌<◌, ◌≤◌, true, eqb, List, [], ◌∷◌, reverse, length, get_or, sym, refl, ap, ◌∙◌, subst, arith, eq-eqb, eqb-true, leb-true}
+use Rattle.std.proofs.lemmas.Bool.{and_parts}
 use Rattle.std.proofs.Math.Nat.{lt-div-mul-add, zero-mul}
 use Rattle.std.proofs.lemmas.Nat.{pow_pos}
 use mathlib.Core.List.Memᴰ
@@ -18,7 +19,6 @@ use Rattle.model.specs.Halls.{World, Kind, no_configuration}
 use Rattle.model.specs.Issuing.{is_right_set}
 use Rattle.model.specs.Runs.{Opened, first_card, first_seat}
 use Rattle.model.proofs.Invariants.{views, history, issued_as, CardRule, the_opening, SeatRule, ends, Holds}
-use Rattle.model.proofs.Ways.{both}
 
 -- nothing stands in an empty history
 stands : List Entry → Type 0
@@ -42,7 +42,7 @@ pub right_below : (rules : Rules) (set : ℕ) → is_right_set rules set ≡ tru
 right_below rules set right = omega (arith, lt-div-mul-add {a = set} (pow_pos rules.replicas), none, zero-mul (2 ^ rules.replicas))
   where
     none : set / 2 ^ rules.replicas * 2 ^ rules.replicas ≡ 0 * 2 ^ rules.replicas
-    none = ap (λ m. m * 2 ^ rules.replicas) (eqb-true (set / 2 ^ rules.replicas) 0 (both (eqb (ones set) (3 * rules.faults + 1)) (eqb (set / 2 ^ rules.replicas) 0) right).second)
+    none = ap (λ m. m * 2 ^ rules.replicas) (eqb-true (set / 2 ^ rules.replicas) 0 (and_parts (eqb (ones set) (3 * rules.faults + 1)) (eqb (set / 2 ^ rules.replicas) 0) right).1)
 
 module _ {V : Type 0} (kind : Kind V) (v : V) (w : World) (o : Opened kind v w.hall) where
   one_issued : length w.hall.roll.list ≡ 1
@@ -65,7 +65,7 @@ module _ {V : Type 0} (kind : Kind V) (v : V) (w : World) (o : Opened kind v w.h
   sound_first = record { sized = λ e lt. at_first e lt right; few = λ e lt. few_first e lt low }
     where
       right : ones w.hall.rules.first.0 ≡ 3 * w.hall.rules.faults + 1
-      right = eqb-true _ _ (both _ _ o.first).first
+      right = eqb-true _ _ (and_parts _ _ o.first).0
 
       low : ones (bit_and w.hall.rules.first.0 w.hall.marked) ≤ w.hall.rules.faults
       low = leb-true _ _ (not-false _ o.marked)

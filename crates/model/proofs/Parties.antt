@@ -1,7 +1,7 @@
 -- Which party a number names, told from the definition.
 -- Nothing is assumed.
 use Rattle.std.proofs.Common.{◌≡◌, ℕ, cond, ◌+◌, ◌-◌, ◌<◌, ◌≤◌, ◌&&◌, eqb, ltb, leb, Some, None, Option, sym, ap, arith, le-leb, ltb-true, leb-true, ne_eqb, ◌∙◌}
-use Rattle.std.proofs.lemmas.Bool.{and_from}
+use Rattle.std.proofs.lemmas.Bool.{and_from, and_parts}
 use Rattle.std.specs.Option.{option_map}
 use Rattle.wire.specs.declared.party.Party.{Party}
 use Rattle.wire.specs.declared.party.Party.TheVariants.{Source as TheSource, Client as AClient, Replica as AReplica}
@@ -9,7 +9,7 @@ use Rattle.wire.specs.Parties.{Client, Replica, party_of, client_of, replica_of}
 use Rattle.wire.proofs.Made.{single_is, single_number, single_within}
 use Rattle.rules.specs.declared.rules.Rules.{Rules}
 use Rattle.model.specs.Halls.{party_within, party_in}
-use Rattle.model.proofs.Ways.{way, not_some, both}
+use Rattle.model.proofs.Ways.{way, not_some}
 
 client_same : {c d : Client} → ◌≡◌ {A = Option Party} (Some (AClient c)) (Some (AClient d)) → c ≡ d
 client_same p = cc
@@ -58,7 +58,7 @@ party_client n c p =
     way (eqb n 0) p (λ t e. source_client e)
     (λ t e. way (leb 1 n && leb n 32) e
     (λ u f. let number = single_number n c (mapped_client (client_of n) c f) in
-    (number, leb-true 1 n (both (leb 1 n) (leb n 32) u).first))
+    (number, leb-true 1 n (and_parts (leb 1 n) (leb n 32) u).0))
     (λ u f. way (leb 100 n && leb n 163) f (λ v g. replica_mapped (replica_of (n - 100)) c g) (λ v g. not_some g)))
 
 party_replica : (n : ℕ) (r : Replica) → party_of n ≡ Some (AReplica r) → 100 + r.number ≡ n
@@ -68,7 +68,7 @@ party_replica n r p =
     (λ u f. client_mapped (client_of n) r f)
     (λ u f. way (leb 100 n && leb n 163) f
     (λ v g. let number = single_number (n - 100) r (mapped_replica (replica_of (n - 100)) r g) in
-    let low = leb-true 100 n (both (leb 100 n) (leb n 163) v).first in
+    let low = leb-true 100 n (and_parts (leb 100 n) (leb n 163) v).0 in
     omega arith)
     (λ v g. not_some g)))
 

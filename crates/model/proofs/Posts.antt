@@ -1,6 +1,7 @@
 -- Posting an entry, and putting a card in a store: what each asks for so that all rules still hold.
 -- The lemmas build the world that comes of it.
 use Rattle.std.proofs.Common.{◌≡◌, ℕ, ◌+◌, ◌-◌, ◌<◌, ◌≤◌, false, cond, ◌&&◌, eqb, List, [], ◌∷◌, ◌++◌, length, get_or, Some, Option, sym, refl, ap, ◌∙◌, subst, arith, length-append, eq-eqb, ne_eqb, set, length-set, get_or-set_other, get_or-set_same, eqb-true, None}
+use Rattle.std.proofs.lemmas.Bool.{and_parts}
 use native.Mathlib.Decide.{dec_lt, ℕ_discrete}
 use lib.ListN.{get_or-append}
 use lib.Seq.{get_or-append_seam}
@@ -24,7 +25,6 @@ use Rattle.model.specs.Halls.{Hall, World, no_entry, no_operation, no_seat, seat
 use Rattle.model.specs.Delivering.{entry_of, posting, client_moves}
 use Rattle.model.proofs.Frames.{card_kept, history_added, later_past, later_pair, later_text, later_views, later_answer, seat_stays, QuietClient}
 use Rattle.model.proofs.Invariants.{views, history, stamp_number, StampedWrite, OverBefore, Sized, CardRule, CardOf, AnswerRule, OperationRule, SettledSomewhere, SeatRule, LogRule, Holds, RollGrows, PostGrows, LogGrows, Later}
-use Rattle.model.proofs.Ways.{both}
 
 -- the world with one more entry in its post
 abbrev pub posted_in : World → Entry → World
@@ -64,9 +64,9 @@ set_keeps f xs k j x e = by_place (ℕ_discrete j k) (dec_lt k (length xs))
 -- there is one seat for each client
 pub seats_many : (h : Hall) → Sized h → length h.seats ≡ h.rules.clients
 seats_many h s =
-    let all = both (eqb (places h.post) h.lengths.post && eqb (places h.log) h.lengths.log)
+    let all = and_parts (eqb (places h.post) h.lengths.post && eqb (places h.log) h.lengths.log)
     (eqb (places h.roll) h.lengths.roll && eqb (length h.seats) h.rules.clients) s.tables in
-    eqb-true _ _ (both (eqb (places h.roll) h.lengths.roll) (eqb (length h.seats) h.rules.clients) all.second).second
+    eqb-true _ _ (and_parts (eqb (places h.roll) h.lengths.roll) (eqb (length h.seats) h.rules.clients) all.1).1
 
 -- the seats with another for client c
 pub seat_same : (h : Hall) (c : ℕ) (seat : Seat) → Sized h → 1 ≤ c → c ≤ h.rules.clients → get_or (set h.seats (c - 1) seat) (c - 1) no_seat ≡ seat

@@ -1,6 +1,7 @@
 -- The step of a replica keeps every rule.
 -- The entry that is handed over stands in the post, and the post has room.
 use Rattle.std.proofs.Common.{◌≡◌, ℕ, ◌+◌, ◌-◌, ◌<◌, ◌≤◌, Bool, true, false, cond, ◌&&◌, eqb, leb, List, length, Some, None, Ok, Err, Option, sym, refl, ap, ◌∙◌, subst, subst₂, le_of_lt, arith, eq-eqb, eqb-true, leb-true}
+use Rattle.std.proofs.lemmas.Bool.{and_parts}
 use Rattle.std.proofs.lemmas.Bool.Decides.{nat_tests}
 use Rattle.wire.specs.declared.entry.Entry.{Entry}
 use Rattle.wire.specs.declared.pair.Pair.{Pair}
@@ -35,7 +36,7 @@ use Rattle.model.proofs.ReplicaMoves.{ReplicaMove, talks, answers_read, keeps, t
 use Rattle.model.proofs.ReplicaPosts.{Owed, replica_posts, owed_unruled, owed_pair, owed_ack, owed_stock}
 use Rattle.model.proofs.Seals.{checked_pair, checked_configuration, known_writer}
 use Rattle.model.proofs.Stamps.{above_higher, not_above}
-use Rattle.model.proofs.Ways.{way, not_ok, ok_same, some_same, not_some, both}
+use Rattle.model.proofs.Ways.{way, not_ok, ok_same, some_same, not_some}
 
 -- the world after a step of a replica
 abbrev pub replica_world : World → (ℕ → Option Card) → Option ℕ → Option Entry → World
@@ -178,7 +179,7 @@ module _ (kind : ℕ) (sealed : List Text) (w : World) (small : kind ≤ 63) (ho
       (posted_as w.hall n lt (record {
         sender = sent.number;
         kind = k;
-        addressee = eqb-true _ _ (both (is_replica_number (entry_of w.hall n).sender) (eqb (entry_of w.hall n).addressee (100 + replica.number)) (fits_at 6 k)).second;
+        addressee = eqb-true _ _ (and_parts (is_replica_number (entry_of w.hall n).sender) (eqb (entry_of w.hall n).addressee (100 + replica.number)) (fits_at 6 k)).1;
         epoch = refl;
         stamp = refl;
       }))

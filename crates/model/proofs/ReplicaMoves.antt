@@ -1,7 +1,7 @@
 -- What a replica can do with an entry: the ways through its step that save or post something.
 -- The view is told from the decision alone.
 use Rattle.std.proofs.Common.{◌≡◌, ℕ, ◌+◌, ◌<◌, ◌≤◌, Bool, true, false, cond, not, ◌&&◌, eqb, ltb, leb, Some, None, Ok, Option, sym, refl, arith}
-use Rattle.std.proofs.lemmas.Bool.{not-false}
+use Rattle.std.proofs.lemmas.Bool.{not-false, and_parts}
 use Rattle.std.proofs.lemmas.Bool.Decides.{nat_tests}
 use Rattle.wire.specs.declared.entry.Entry.{Entry}
 use Rattle.wire.specs.declared.entry.EntryKind.{EntryKind}
@@ -16,7 +16,7 @@ use Rattle.rules.specs.Posts.{pair_entry, ack_entry, stock_entry, config_entry, 
 use Rattle.rules.specs.Senders.{sender_within}
 use Rattle.replicas.specs.declared.decision.Decision.{Decision}
 use Rattle.replicas.specs.Decisions.{Verdict, party, present, is_member, holding, entering, stocked, serving, on_read, on_write, on_config, on_transfer, on_stock, on_stock_from, decided_by_kind, decided}
-use Rattle.model.proofs.Ways.{way, not_ok, ok_same, both}
+use Rattle.model.proofs.Ways.{way, not_ok, ok_same}
 
 -- the number of a kind that was found
 pub kind_known : (n : ℕ) (k : EntryKind) → kind_of n ≡ Some k → n ≡ kind_number k
@@ -141,13 +141,13 @@ module _ (rules : Rules) (replica : Replica) (card : Card) (e : Entry) (genuine 
           → ReplicaMove rules replica card e genuine d
       from_view awaited None is q = not_ok q
       from_view awaited (Some from) is q =
-          let b = both (is_member replica card) (not card.ready && eqb (e.epoch + 1) card.epoch) awaited in
-          let b2 = both (not card.ready) (eqb (e.epoch + 1) card.epoch) b.second in
+          let b = and_parts (is_member replica card) (not card.ready && eqb (e.epoch + 1) card.epoch) awaited in
+          let b2 = and_parts (not card.ready) (eqb (e.epoch + 1) card.epoch) b.1 in
           way (member card.heard.0 from.number) q
           (λ again q1. not_ok q1)
           (λ new q1. way (not genuine) q1
           (λ bad q2. not_ok q2)
-          (λ good q2. hears k from (record { inside = b.first; epoch = grind (arith, nat_tests); from_previous = is; unheard = new; checks = not-false _ good }) (sym (ok_same q2))))
+          (λ good q2. hears k from (record { inside = b.0; epoch = grind (arith, nat_tests); from_previous = is; unheard = new; checks = not-false _ good }) (sym (ok_same q2))))
 
   kind_view : (o : Option EntryKind) → kind_of e.kind ≡ o → decided_by_kind o rules replica card e genuine ≡ Ok d → ReplicaMove rules replica card e genuine d
   kind_view None is p = not_ok p

@@ -15,12 +15,12 @@ use Rattle.model.specs.Delivering.{is_over}
 use Rattle.model.specs.Order.{Operation, a_read, a_write, Ended, collects, value_answered}
 use Rattle.model.specs.Runs.{Lawful, Opened, Run, Unforged}
 use Rattle.model.specs.Slips.{collecting, is_its_slip}
-use Rattle.model.proofs.Effects.{BeginCall, by_read, by_write}
+use Rattle.model.proofs.Effects.{BeginCall, by_read, by_write, its_slip}
 use Rattle.model.proofs.Events.{slip_same, Event, nothing, begins, ends, BegunLog, EndedLog, begins_slip, slips, event_of}
 use Rattle.model.proofs.Growing.{Grows, grows_same, grows_trans, event_grows, ended_logged}
 use Rattle.model.proofs.Invariants.{KnownPair, the_opening, a_write as of_a_write, Holds}
 use Rattle.model.proofs.RunKeeps.{sealed_at, holds_at}
-use Rattle.model.proofs.Ways.{way_in, both, not_some}
+use Rattle.model.proofs.Ways.{way_in, not_some}
 use Rattle.model.proofs.Stages.{in_stage}
 use Rattle.model.proofs.StageTests.{over_is}
 
@@ -282,19 +282,13 @@ module _ {V : Type 0} (kind : Kind V) (v : V) (start : World) (lawful : Lawful k
           → value_answered (collecting o (hall_at i) c (seat_of (hall_at i) c).line.highest).answer ≡ Some u → Collected i c k u
       by_value its over None is z = not_some z
       by_value its over (Some x) is z =
-          let a = both (leb 1 c && leb c (hall_at i).rules.clients) (not (is_idle (seat_of (hall_at i) c).line.stage) && eqb (seat_of (hall_at i) c).operation k) its in
-          let r = both (leb 1 c) (leb c (hall_at i).rules.clients) a.first in
-          let b = both (not (is_idle (seat_of (hall_at i) c).line.stage)) (eqb (seat_of (hall_at i) c).operation k) a.second in
-          let low = leb-true _ _ r.first in
-          let high = leb-true _ _ r.second in
-          let k_is = eqb-true _ _ b.second in
-          let mine = (holds i le).seats c low high in
-          let stage = over_is _ over in
+          let slip_is = its_slip (run.world i) c k its in
+          let mine = in_stage ((holds i le).seats c slip_is.seated.low slip_is.seated.high) (over_is _ over) in
           record {
-            low = low;
-            high = high;
-            over = subst (λ m. 0 < end_of (operation_of (hall_at i) m)) k_is (in_stage mine stage).ended;
-            value = ap (λ m. kind.value (operation_of (hall_at i) m).pair.word) (sym k_is) ∙ ap (λ p. kind.value p.word) (in_stage mine stage).with_pair ∙ is ∙ z;
+            low = slip_is.seated.low;
+            high = slip_is.seated.high;
+            over = subst (λ m. 0 < end_of (operation_of (hall_at i) m)) slip_is.operation mine.ended;
+            value = ap (λ m. kind.value (operation_of (hall_at i) m).pair.word) (sym slip_is.operation) ∙ ap (λ p. kind.value p.word) mine.with_pair ∙ is ∙ z;
           }
 
   -- collect answers nothing as long as the operation has not ended
