@@ -1,6 +1,6 @@
 -- Which way a chain of tests went, told from what came of it.
 -- Nothing is assumed.
-use Rattle.std.proofs.Common.{◌≡◌, ℕ, Bool, true, false, cond, ◌&&◌, ◌||◌, Some, None, Ok, Err, Option, Result, sym, refl, arith}
+use Rattle.std.proofs.Common.{◌≡◌, ℕ, Bool, true, false, cond, ◌&&◌, Some, None, Ok, Err, Option, Result, sym, refl, arith}
 
 -- one of the two ways of a test
 pub way : {X P : Type 0} (b : Bool) {x y r : X} → cond b x y ≡ r → (b ≡ true → x ≡ r → P) → (b ≡ false → y ≡ r → P) → P
@@ -20,28 +20,12 @@ some_same p = cc
 pub not_some : {A P : Type 0} {a : A} → ◌≡◌ {A = Option A} None (Some a) → P
 not_some p = let z : ◌≡◌ {A = ℕ} 0 1 = cc in absurd (omega arith)
 
--- both parts of a test
-pub record Both (a b : Bool) : Type 0 where
-  pub first : a ≡ true
-  pub second : b ≡ true
-
-pub both : (a b : Bool) → (a && b) ≡ true → Both a b
-both true true e = record { first = refl; second = refl }
-both true false e = record { first = refl; second = e }
-both false true e = record { first = e; second = refl }
-both false false e = record { first = e; second = e }
-
 -- one of the two ways of a test, under a function
 pub way_in : {X Y P : Type 0} (f : X → Y) (b : Bool) {x y : X} {r : Y} → f (cond b x y) ≡ r → (b ≡ true → f x ≡ r → P) → (b ≡ false → f y ≡ r → P) → P
 way_in f true e yes_way no_way = yes_way refl e
 way_in f false e yes_way no_way = no_way refl e
 
--- either part of a test failed
-pub neither : (a b : Bool) → (a || b) ≡ false → (a ≡ false) × (b ≡ false)
-neither true true e = (e, e)
-neither true false e = (e, refl)
-neither false b e = (refl, e)
-
+-- not both parts of a test hold
 pub not_both : (a b : Bool) → (a && b) ≡ false → a ≡ true → b ≡ false
 not_both true b e is = e
 not_both false true e is = sym is

@@ -1,6 +1,6 @@
 -- What an opening leaves is what every run starts from.
 use Rattle.std.proofs.Common.{◌≡◌, ℕ, zero, suc, ◌+◌, ◌-◌, ◌*◌, ◌<◌, ◌≤◌, ◌&&◌, Bool, true, false, cond, not, Ok, Err, eqb, leb, List, [], ◌∷◌, ◌++◌, length, Some, Option, refl, sym, ap, ◌∙◌, subst, arith}
-use Rattle.std.proofs.lemmas.Bool.{leb-true, eqb-true, eqb-false, eq-eqb}
+use Rattle.std.proofs.lemmas.Bool.{leb-true, eqb-true, eqb-false, eq-eqb, and_parts}
 use Rattle.std.proofs.lemmas.List.{get_or-replicate, length-append, length-replicate}
 use Rattle.stores.specs.declared.card.Card.{Card}
 use Rattle.stores.specs.Saved.{Shelf}
@@ -13,7 +13,7 @@ use Rattle.model.specs.Tables.{Table, places}
 use Rattle.model.specs.Halls.{Kind, Hall, Lengths, no_seat}
 use Rattle.model.specs.Issuing.{is_right_set, has_too_many_marked}
 use Rattle.model.specs.Runs.{Opened, first_card, first_seat}
-use Rattle.model.proofs.Ways.{both, not_ok}
+use Rattle.model.proofs.Ways.{not_ok}
 use Rattle.register.specs.Grown.{grown}
 use Rattle.register.specs.Setups.{within_limits}
 use Rattle.register.specs.Openings.{Lent, right_tables, right_lengths, too_few, admitted, lengths_of, with_first_cards, emptied, opened}
@@ -66,37 +66,37 @@ module _ {V : Type 0} (kind : Kind V) (v : V) (rules : Rules) (marked : ℕ) (t 
       → rules.opening ≡ kind.word v
       → Opened kind v (opened rules marked t shelf desk)
   opening_right limits right few tables word =
-      let l = both (leb 1 rules.faults && leb rules.faults 5) _ limits in
-      let faults = both (leb 1 rules.faults) (leb rules.faults 5) l.first in
-      let counts = both (leb (3 * rules.faults + 1) rules.replicas && leb rules.replicas 64) (leb 1 rules.clients && leb rules.clients 32) l.second in
-      let replicas = both (leb (3 * rules.faults + 1) rules.replicas) (leb rules.replicas 64) counts.first in
-      let clients = both (leb 1 rules.clients) (leb rules.clients 32) counts.second in
-      let lent = both (right_lengths (places t.post) (places t.log) (places t.roll)) (eqb (length t.seats) rules.clients) tables in
-      let lengths = both (leb 1 (places t.post) && leb (places t.post) 4096) _ lent.first in
-      let post = both (leb 1 (places t.post)) (leb (places t.post) 4096) lengths.first in
-      let others = both (leb 1 (places t.log) && leb (places t.log) 1024) (leb 1 (places t.roll) && leb (places t.roll) 256) lengths.second in
-      let log = both (leb 1 (places t.log)) (leb (places t.log) 1024) others.first in
-      let roll = both (leb 1 (places t.roll)) (leb (places t.roll) 256) others.second in
-      let seats : length t.seats ≡ rules.clients = eqb-true (length t.seats) rules.clients lent.second in
+      let l = and_parts (leb 1 rules.faults && leb rules.faults 5) _ limits in
+      let faults = and_parts (leb 1 rules.faults) (leb rules.faults 5) l.0 in
+      let counts = and_parts (leb (3 * rules.faults + 1) rules.replicas && leb rules.replicas 64) (leb 1 rules.clients && leb rules.clients 32) l.1 in
+      let replicas = and_parts (leb (3 * rules.faults + 1) rules.replicas) (leb rules.replicas 64) counts.0 in
+      let clients = and_parts (leb 1 rules.clients) (leb rules.clients 32) counts.1 in
+      let lent = and_parts (right_lengths (places t.post) (places t.log) (places t.roll)) (eqb (length t.seats) rules.clients) tables in
+      let lengths = and_parts (leb 1 (places t.post) && leb (places t.post) 4096) _ lent.0 in
+      let post = and_parts (leb 1 (places t.post)) (leb (places t.post) 4096) lengths.0 in
+      let others = and_parts (leb 1 (places t.log) && leb (places t.log) 1024) (leb 1 (places t.roll) && leb (places t.roll) 256) lengths.1 in
+      let log = and_parts (leb 1 (places t.log)) (leb (places t.log) 1024) others.0 in
+      let roll = and_parts (leb 1 (places t.roll)) (leb (places t.roll) 256) others.1 in
+      let seats : length t.seats ≡ rules.clients = eqb-true (length t.seats) rules.clients lent.1 in
       let roll_places : places (grown (emptied t.roll) (first_configuration rules)) ≡ places t.roll = grown_places (emptied t.roll) (first_configuration rules) ∙ emptied_places t.roll in
       record {
-        faults = leb-true 1 rules.faults faults.first;
-        replicas = leb-true rules.replicas 64 replicas.second;
-        clients = leb-true rules.clients 32 clients.second;
+        faults = leb-true 1 rules.faults faults.0;
+        replicas = leb-true rules.replicas 64 replicas.1;
+        clients = leb-true rules.clients 32 clients.1;
         first = right;
         marked = few;
         opening = word;
         tables = all_true
             (all_true (eq-eqb _ _ (emptied_places t.post)) (eq-eqb _ _ (emptied_places t.log)))
             (all_true (eq-eqb _ _ roll_places) (eq-eqb _ _ (length-replicate (length t.seats) (first_seat rules) ∙ seats)));
-        post_limit = subst (λ n. n ≤ 4096) (sym (emptied_places t.post)) (leb-true (places t.post) 4096 post.second);
-        log_limit = subst (λ n. n ≤ 1024) (sym (emptied_places t.log)) (leb-true (places t.log) 1024 log.second);
-        roll_limit = subst (λ n. n ≤ 256) (sym roll_places) (leb-true (places t.roll) 256 roll.second);
+        post_limit = subst (λ n. n ≤ 4096) (sym (emptied_places t.post)) (leb-true (places t.post) 4096 post.1);
+        log_limit = subst (λ n. n ≤ 1024) (sym (emptied_places t.log)) (leb-true (places t.log) 1024 log.1);
+        roll_limit = subst (λ n. n ≤ 256) (sym roll_places) (leb-true (places t.roll) 256 roll.1);
         source = refl;
         moment = refl;
         post = refl;
         log = refl;
-        roll = first_item t.roll (first_configuration rules) (leb-true 1 (places t.roll) roll.first);
+        roll = first_item t.roll (first_configuration rules) (leb-true 1 (places t.roll) roll.0);
         seats = λ c above below. get_or-replicate (length t.seats) (c - 1) (first_seat rules) no_seat (omega (arith, above, below, seats));
         cards = λ n less. cards_saved rules shelf.place rules.replicas n less;
       }

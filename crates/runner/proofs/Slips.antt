@@ -1,6 +1,6 @@
 -- A slip that a begin or a redeem has answered can be lodged, also after a call off or a collect that was refused. Assumes nothing.
 use Rattle.std.proofs.Common.{◌≡◌, ℕ, ◌-◌, ◌<◌, ◌≤◌, Bool, true, false, not, ◌&&◌, ◌||◌, eqb, leb, ltb, length, is_some, Some, None, Ok, Err, Option, Result, IfOk, sym, refl, ap, ◌∙◌, subst, arith, length-set}
-use Rattle.std.proofs.lemmas.Bool.{and_parts, and_from, eq-eqb, eqb-true, leb-true, le-leb, true≢false, false≢true}
+use Rattle.std.proofs.lemmas.Bool.{and_parts, and_from, eq-eqb, eqb-true, leb-true, le-leb, true≢false, false≢true, or_parts}
 use Rattle.std.proofs.lemmas.List.{get_or-set_same}
 use Rattle.kinds.specs.declared.word.Word.{Word}
 use Rattle.wire.specs.declared.entry.Entry.{Entry}
@@ -22,7 +22,7 @@ use Rattle.model.specs.Delivering.{is_over}
 use Rattle.model.specs.Slips.{is_its_slip, holding_slip, call_off_called, collect_called, collecting, lodge_called, redeem_called, redeeming}
 use Rattle.register.specs.declared.slip.Slip.{Slip}
 use Rattle.register.specs.Worlds.{slip_or}
-use Rattle.model.proofs.Ways.{way, way_in, neither}
+use Rattle.model.proofs.Ways.{way, way_in}
 use Rattle.model.proofs.Parties.{client_in}
 use Rattle.model.proofs.Posts.{places_added}
 use Rattle.runner.specs.Slips.{HasSlip, holds_its_slip, is_at}
@@ -190,11 +190,11 @@ module _ {V : Type 0} (w : World) (c k : ℕ) (h' : Hall) where
           (λ v x. no_slip x)
           (λ v x. way_in (λ b. begin_done b client word w.hall) (is_some word && eqb (w.hall.seals client.number) 0) x
           (λ v d. no_slip d)
-          (λ v d. let free = neither (is_full w.hall.log) (is_full w.hall.post || not (has_moment w.hall)) room in
+          (λ v d. let free = or_parts (is_full w.hall.log) (is_full w.hall.post || not (has_moment w.hall)) room in
           let next : Seat = record { line = reading_next (seat_of w.hall client.number).line word; operation = length w.hall.log.list; lodged = (seat_of w.hall client.number).lodged } in
           arrives client.number (length w.hall.log.list) _ d
           (grown_has (with_seat w.hall client.number next) client.number (length w.hall.log.list) _ _ _
-          (neither (is_full w.hall.post) (not (has_moment w.hall)) free.1).0 free.0
+          (or_parts (is_full w.hall.post) (not (has_moment w.hall)) free.1).0 free.0
           (seat_has w.hall client.number next t inside refl)))))))
 
       by_party : has_its_tables w.hall ≡ true → (o : Option Party) → party_in w.hall.rules n ≡ o → begin_by {V = V} o n w.hall word ≡ record { answer = slip c k; hall = h' } → HasSlip h' c k
