@@ -27,7 +27,7 @@ use Rattle.model.specs.Halls.{Hall, World}
 use Rattle.model.proofs.ClientSteps.{client_low, client_high}
 use Rattle.model.proofs.Frames.{later_end_pair}
 use Rattle.model.proofs.Invariants.{history, stamp_number, KnownConfiguration, Genuine, EndPair, SendingRule, SeatBase, SeatRule, Holds}
-use Rattle.model.proofs.Moved.{moved, Posting, posting_one, logging_none, later_moved}
+use Rattle.model.proofs.Moved.{Posting, posting_one, logging_none, stepped, later_stepped}
 use Rattle.model.proofs.Seats.{with_line, base_moved, counts_kept, own_moved, step_keeps}
 use Rattle.model.proofs.Stages.{in_stage, seat_in}
 use Rattle.model.proofs.StageTests.{opens_busy}
@@ -41,7 +41,7 @@ abbrev pub asked_line : Seat → Configuration → Stage → Pair → Line
 asked_line seat configuration stage pair = opened (configured_as seat.line configuration) stage (seat.line.round + 1) pair
 
 abbrev pub asked_world : World → Client → Seat → Line → Entry → World
-asked_world w client seat line x = moved w client.number (with_line seat line) w.hall.log.list w.hall.moment (added w.hall.post x) w.hall.seals w.genuine
+asked_world w client seat line x = stepped w client.number (with_line seat line) (added w.hall.post x)
 
 module _ {kind : ℕ} {sealed : List Text} {w : World} (holds : Holds kind sealed w) (client : Client) (within : client.number ≤ w.hall.rules.clients)
     (seat : Seat) (r : SeatRule kind w client.number seat) where
@@ -96,7 +96,7 @@ module _ {kind : ℕ} {sealed : List Text} {w : World} (holds : Holds kind seale
           asked = write_posted room line refl (asked_world w client seat line (write_of client line)).hall refl;
           served = λ n m honest. none_counted n m;
           genuine = genuine;
-          ends_with = later_end_pair (later_moved (with_line seat line) w.hall.seals w.genuine (posting_write room line refl) (logging_none w client.number) (λ t s e. e)) seat.operation refl logged
+          ends_with = later_end_pair (later_stepped (with_line seat line) (posting_write room line refl)) seat.operation refl logged
               (holds.log.each seat.operation logged).began_by found;
         }
 

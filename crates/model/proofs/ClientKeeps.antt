@@ -36,7 +36,7 @@ use Rattle.model.proofs.ClientStamps.{stamped_op, stamping, stamps_keep}
 use Rattle.model.proofs.ClientSteps.{client_low, keeps_pair, keeps_ack, keeps_config, keeps_reply, known_handed}
 use Rattle.model.proofs.Closing.{found_ends, pair_closes}
 use Rattle.model.proofs.Invariants.{SeatRule, Holds, UnforgedNow}
-use Rattle.model.proofs.Moved.{moved}
+use Rattle.model.proofs.Moved.{moved, stepped}
 use Rattle.model.proofs.Posts.{table_after, posting_is}
 use Rattle.model.proofs.Seats.{with_line}
 use Rattle.model.proofs.StageTests.{writing_cases, same_over, same_stamping, not_to_reading, not_to_over}
@@ -91,7 +91,7 @@ module _ (w : World) (c : ℕ) (line : Line) where
 
     -- the log stays as it is, and nothing is sealed
     quiet_kept : has_ended seat.line line ≡ false → is_stamping seat.line.stage line.stage ≡ false
-        → Holds kind sealed (moved w c (with_line seat line) w.hall.log.list w.hall.moment (table_after w.hall.post post) w.hall.seals w.genuine)
+        → Holds kind sealed (stepped w c (with_line seat line) (table_after w.hall.post post))
         → Kept kind sealed w c line post w.hall.seals
     quiet_kept going unstamped held =
         kept_by None w.hall.seals (operation_of w.hall seat.operation) w.hall.moment (rw unstamped refl) (rw (going, unstamped) refl) (rw going refl)

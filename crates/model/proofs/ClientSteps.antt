@@ -24,7 +24,7 @@ use Rattle.model.specs.Runs.{text_by_kind}
 use Rattle.model.proofs.ClientMoves.{Hears, Acked, Configures, heard, moved_on}
 use Rattle.model.proofs.Heard.{sent_by, heard_reading, counted_sending}
 use Rattle.model.proofs.Invariants.{KnownConfiguration, OpenRule, SeatBase, SeatRule, Holds, UnforgedNow}
-use Rattle.model.proofs.Moved.{moved, posting_none, posting_one}
+use Rattle.model.proofs.Moved.{posting_none, posting_one, stepped}
 use Rattle.wire.proofs.Made.{single_within}
 use Rattle.model.proofs.Seals.{checked_configuration}
 use Rattle.model.proofs.Seats.{with_line, stay_keeps}
@@ -54,7 +54,7 @@ module _ {kind : ℕ} {sealed : List Text} {w : World} (holds : Holds kind seale
   pub keeps_pair : (entry_of w.hall n).addressee ≡ client.number → (from : Replica)
       → Hears seat.line (entry_of w.hall n) (genuine_entry w.hall.rules kind w.genuine (entry_of w.hall n)) from
       → is_quorum w.hall.rules (heard seat.line (entry_of w.hall n) from) ≡ false
-      → Holds kind sealed (moved w client.number (with_line seat (heard seat.line (entry_of w.hall n) from)) w.hall.log.list w.hall.moment w.hall.post w.hall.seals w.genuine)
+      → Holds kind sealed (stepped w client.number (with_line seat (heard seat.line (entry_of w.hall n) from)) w.hall.post)
   unfolding posting_none
   keeps_pair to from h few =
       let line = heard seat.line (entry_of w.hall n) from in
@@ -66,7 +66,7 @@ module _ {kind : ℕ} {sealed : List Text} {w : World} (holds : Holds kind seale
   -- ACK is counted
   pub keeps_ack : (entry_of w.hall n).addressee ≡ client.number → (from : Replica) → Acked seat.line (entry_of w.hall n) from
       → is_quorum w.hall.rules (counting seat.line from) ≡ false
-      → Holds kind sealed (moved w client.number (with_line seat (counting seat.line from)) w.hall.log.list w.hall.moment w.hall.post w.hall.seals w.genuine)
+      → Holds kind sealed (stepped w client.number (with_line seat (counting seat.line from)) w.hall.post)
   unfolding posting_none
   keeps_ack to from h few =
       let line = counting seat.line from in
@@ -85,7 +85,7 @@ module _ {kind : ℕ} {sealed : List Text} {w : World} (holds : Holds kind seale
 
   -- CONFIG with no open round
   pub keeps_config : Configures seat.line (entry_of w.hall n) (genuine_entry w.hall.rules kind w.genuine (entry_of w.hall n)) → is_open seat.line.stage ≡ false
-      → Holds kind sealed (moved w client.number (with_line seat (moved_on seat.line (entry_of w.hall n))) w.hall.log.list w.hall.moment w.hall.post w.hall.seals w.genuine)
+      → Holds kind sealed (stepped w client.number (with_line seat (moved_on seat.line (entry_of w.hall n))) w.hall.post)
   unfolding posting_none
   keeps_config h closed =
       let line = moved_on seat.line (entry_of w.hall n) in
@@ -95,7 +95,7 @@ module _ {kind : ℕ} {sealed : List Text} {w : World} (holds : Holds kind seale
 
   -- BEHIND: CONFIG is posted
   pub keeps_reply : is_full w.hall.post ≡ false
-      → Holds kind sealed (moved w client.number (with_line seat seat.line) w.hall.log.list w.hall.moment (added w.hall.post (config_entry client.number seat.line.configuration)) w.hall.seals w.genuine)
+      → Holds kind sealed (stepped w client.number (with_line seat seat.line) (added w.hall.post (config_entry client.number seat.line.configuration)))
   unfolding posting_one
   keeps_reply room =
       stay_keeps holds (client_low client) within (with_line seat seat.line)

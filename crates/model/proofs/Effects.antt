@@ -31,7 +31,7 @@ use Rattle.model.specs.Delivering.{posting, by_replica, by_client, client_moves,
 use Rattle.model.specs.Issuing.{issue_called, issue_done, issuing, is_right_set, has_too_many_marked}
 use Rattle.model.specs.Meddling.{meddle_called, meddle_by, sent_by}
 use Rattle.model.specs.Slips.{call_off_called, collect_called, collecting, lodge_called, redeem_called, redeeming, is_its_slip, freed, holding_slip}
-use Rattle.model.proofs.Parties.{ReplicaIn, client_in, replica_in}
+use Rattle.model.proofs.Parties.{ReplicaIn, client_in, replica_in, ClientIn}
 use Rattle.model.proofs.Ways.{way, way_in, not_both}
 
 -- the call that begins an operation of client c with this word
@@ -112,6 +112,9 @@ hall_is p = ap (λ o. o.hall) p
 seated_by : (w : World) (c : ℕ) → (leb 1 c && leb c w.hall.rules.clients) ≡ true → Seated w c
 seated_by w c t = let r = and_parts (leb 1 c) (leb c w.hall.rules.clients) t in record { low = leb-true _ _ r.0; high = leb-true _ _ r.1 }
 
+seated_in : (w : World) {n : ℕ} {client : Client} → ClientIn w.hall.rules n client → Seated w client.number
+seated_in w c = record { low = subst (λ m. 1 ≤ m) (sym c.number) c.low; high = subst (λ m. m ≤ w.hall.rules.clients) (sym c.number) c.high }
+
 -- the client of a slip
 pub its_slip : (w : World) (c k : ℕ) → is_its_slip w.hall c k ≡ true → ItsSlip w c k
 its_slip w c k t =
@@ -169,7 +172,7 @@ module _ {V : Type 0} (kind : Kind V) (w : World) (a : Answer V) (h' : Hall) whe
       by_party (Some (AReplica r)) is q = stood call _ q
       by_party (Some (AClient client)) is q =
           let c = client_in w.hall.rules n client is in
-          as_client client c.number (record { low = subst (λ m. 1 ≤ m) (sym c.number) c.low; high = subst (λ m. m ≤ w.hall.rules.clients) (sym c.number) c.high })
+          as_client client c.number (seated_in w c)
           (subst (λ m. begin_by (Some (AClient client)) m w.hall word ≡ record { answer = a; hall = h' }) (sym c.number) q)
 
   deliver_effect : (number party : ℕ) → deliver_called w kind.number number party ≡ record { answer = a; hall = h' } → Effect kind w (deliver number party) a h'
@@ -202,7 +205,7 @@ module _ {V : Type 0} (kind : Kind V) (w : World) (a : Answer V) (h' : Hall) whe
           let c = client_in w.hall.rules party client is in
           way (is_full w.hall.post || not (has_moment w.hall)) q (λ u s. stood (deliver number party) _ s)
           (λ room s. way (not (fits_client (kind_of (entry_of w.hall number).kind) (entry_of w.hall number) client)) s (λ u z. stood (deliver number party) _ z)
-          (λ fits z. by_line client c.number (record { low = subst (λ m. 1 ≤ m) (sym c.number) c.low; high = subst (λ m. m ≤ w.hall.rules.clients) (sym c.number) c.high })
+          (λ fits z. by_line client c.number (seated_in w c)
           (room_for lt room) (not-false _ fits) (client_step_of w kind.number client (entry_of w.hall number)) refl _ refl z))
       by_party lt (Some (AReplica r)) is q =
           way (is_full w.hall.post || not (has_moment w.hall)) q (λ u s. stood (deliver number party) _ s)

@@ -1,6 +1,6 @@
 -- What was said of an operation in the log stands from then on.
 -- From the events of calls, over as many calls as there are.
-use Rattle.std.proofs.Common.{◌≡◌, ℕ, ◌<◌, ◌≤◌, true, length, sym, refl, ap, ◌∙◌, subst, arith}
+use Rattle.std.proofs.Common.{◌≡◌, ℕ, ◌<◌, ◌≤◌, true, length, sym, refl, ap, ◌∙◌, subst, arith, zero, suc, ◌+◌, add-one}
 use native.Mathlib.Decide.{ℕ_discrete, dec_lt}
 use Rattle.halls.specs.declared.operation.Operation.{Operation}
 use Rattle.model.specs.Halls.{Hall, Kind, no_operation, operation_of, end_of}
@@ -8,6 +8,18 @@ use Rattle.model.specs.Answers.{Answer}
 use Rattle.model.specs.Calls.{Call}
 use Rattle.model.proofs.Events.{Event, nothing, begins, ends}
 use Rattle.std.proofs.lemmas.List.{get_or_past}
+
+-- what holds of each position and the next one holds of each and each later one
+pub along : (R : ℕ → ℕ → Type 0) (end : ℕ) → ((i : ℕ) → R i i) → ((i j : ℕ) → R i j → j < end → R i (j + 1)) → (i j : ℕ) → i ≤ j → j ≤ end → R i j
+along R end same step i zero le lj = subst (λ m. R m 0) zero_is (same 0)
+  where
+    zero_is : 0 ≡ i
+    zero_is = omega arith
+along R end same step i (suc j) le lj = by_place (λ below. along R end same step i j below (omega arith)) (ℕ_discrete i (suc j))
+  where
+    by_place : (i ≤ j → R i j) → Dec (i ≡ suc j) → R i (suc j)
+    by_place before (yes e) = subst (λ m. R m (suc j)) (sym e) (same (suc j))
+    by_place before (no ne) = subst (R i) (add-one j) (step i j (before (omega arith)) (omega arith))
 
 -- the log of one hall goes on in another
 pub record Grows (h h' : Hall) : Type 0 where

@@ -32,6 +32,10 @@ moved w c seat ops moment table seals genuine = record w {
   genuine = genuine;
 }
 
+-- where the log and the seals stay as they are
+abbrev pub stepped : World → ℕ → Seat → Table Entry → World
+stepped w c seat table = moved w c seat w.hall.log.list w.hall.moment table w.hall.seals w.genuine
+
 -- the new entries are of client c, and ask in no round above this one
 pub record Posting (w : World) (c round : ℕ) (table : Table Entry) : Type 0 where
   pub grows : PostGrows w.hall table.list
@@ -133,6 +137,9 @@ later_moved {w = w} seat seals genuine p g grows = record {
   };
   genuine = grows;
 }
+
+abbrev pub later_stepped : {w : World} {c round : ℕ} (seat : Seat) {table : Table Entry} → Posting w c round table → Later w (stepped w c seat table)
+later_stepped {w} {c} seat p = later_moved seat w.hall.seals w.genuine p (logging_none w c) (λ t s e. e)
 
 module _ {kind : ℕ} {sealed : List Text} {w : World} (holds : Holds kind sealed w) {c round : ℕ} (low : 1 ≤ c) (high : c ≤ w.hall.rules.clients)
     (seat : Seat) {ops : List Operation} {moment : ℕ} {table : Table Entry} (seals : ℕ → ℕ) (genuine : Text → Seal → Bool)

@@ -38,6 +38,7 @@ use Rattle.model.proofs.Closing.{FoundPair, pair_closes}
 use Rattle.model.proofs.Effects.{Effect, effect_of}
 use Rattle.model.proofs.Events.{begins_slip, slips}
 use Rattle.model.proofs.Frames.{posted_as}
+use Rattle.model.proofs.Growing.{along}
 use Rattle.model.proofs.Handing.{Counts, post_small, sent_within, move_counts, heeded_pair, heeded_ack, handed_counts}
 use Rattle.model.proofs.Heard.{read_posted, pair_epoch, ack_epoch}
 use Rattle.model.proofs.Invariants.{views, history, issued_as, stamp_number, SeatRule, Holds}
@@ -71,15 +72,8 @@ module _ {V : Type 0} (kind : Kind V) (v : V) (start : World) (lawful : Lawful k
 
   -- a client's line goes on from each position to each later one
   goes_on : (c : ℕ) → 1 ≤ c → c ≤ start.hall.rules.clients → (i j : ℕ) → i ≤ j → j ≤ run.calls → Onward (seat_of (hall_at i) c).line (seat_of (hall_at j) c).line
-  goes_on c low high i zero le lj = subst (λ m. Onward (seat_of (hall_at m) c).line (seat_of (hall_at 0) c).line) zero_is (onward_same _)
-    where
-      zero_is : 0 ≡ i
-      zero_is = omega arith
-  goes_on c low high i (suc j) le lj = by_place (λ below. goes_on c low high i j below (omega arith)) (ℕ_discrete i (suc j))
-    where
-      by_place : (i ≤ j → Onward (seat_of (hall_at i) c).line (seat_of (hall_at j) c).line) → Dec (i ≡ suc j) → Onward (seat_of (hall_at i) c).line (seat_of (hall_at (suc j)) c).line
-      by_place before (yes e) = subst (λ m. Onward (seat_of (hall_at m) c).line (seat_of (hall_at (suc j)) c).line) (sym e) (onward_same _)
-      by_place before (no ne) = subst (λ m. Onward (seat_of (hall_at i) c).line (seat_of (hall_at m) c).line) (add-one j) (onward_trans (before (omega arith)) (turn_onward (turn_at j c (omega arith) low high)))
+  goes_on c low high =
+      along (λ i j. Onward (seat_of (hall_at i) c).line (seat_of (hall_at j) c).line) run.calls (λ i. onward_same _) (λ i j o lt. onward_trans o (turn_onward (turn_at j c lt low high)))
 
   -- the client's seat before position i: a round of operation k is open
   record OpenSeat (i c k : ℕ) : Type 0 where

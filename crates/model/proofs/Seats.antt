@@ -16,7 +16,7 @@ use Rattle.model.specs.Tables.{Table}
 use Rattle.model.specs.Halls.{World, no_operation, operation_of}
 use Rattle.model.proofs.Frames.{later_configuration, later_text, seat_stays, QuietClient}
 use Rattle.model.proofs.Invariants.{history, KnownConfiguration, StampedWrite, OpenRule, OwnRule, SeatBase, SeatRule, Holds}
-use Rattle.model.proofs.Moved.{moved, Posting, Logging, logging_none, later_moved, moved_keeps}
+use Rattle.model.proofs.Moved.{moved, Posting, Logging, logging_none, later_moved, moved_keeps, stepped, later_stepped}
 use Rattle.model.proofs.Posts.{log_later}
 
 -- the seat with another line
@@ -67,17 +67,17 @@ module _ {kind : ℕ} {w : World} {c : ℕ} {old : Seat} (line : Line) {ops : Li
 
 -- a step that leaves the log as it is
 module _ {kind : ℕ} {sealed : List Text} {w : World} (holds : Holds kind sealed w) {c : ℕ} (low : 1 ≤ c) (high : c ≤ w.hall.rules.clients) (seat : Seat) {round : ℕ} {table : Table Entry} (p : Posting w c round table) where
-  pub step_keeps : SeatRule kind (moved w c seat w.hall.log.list w.hall.moment table w.hall.seals w.genuine) c seat
-      → Holds kind sealed (moved w c seat w.hall.log.list w.hall.moment table w.hall.seals w.genuine)
+  pub step_keeps : SeatRule kind (stepped w c seat table) c seat
+      → Holds kind sealed (stepped w c seat table)
   step_keeps own =
-      let l = later_moved seat w.hall.seals w.genuine p (logging_none w c) (λ t s e. e) in
+      let l = later_stepped seat p in
       moved_keeps holds low high seat w.hall.seals w.genuine p (logging_none w c) (λ t s e. e) sealed (λ d ne. omega arith) own
-      (log_later w (moved w c seat w.hall.log.list w.hall.moment table w.hall.seals w.genuine) l refl refl holds.log)
+      (log_later w (stepped w c seat table) l refl refl holds.log)
       (λ t m. later_text kind l t (holds.texts t m))
 
   -- a step that asks for nothing: the seat's rule is shown in the old world
   pub stay_keeps : Everywhere (λ x below. QuietClient c x) p.posted → SeatRule kind w c seat
-      → Holds kind sealed (moved w c seat w.hall.log.list w.hall.moment table w.hall.seals w.genuine)
+      → Holds kind sealed (stepped w c seat table)
   unfolding later_moved
   stay_keeps quiet r = step_keeps
-      (seat_stays kind c seat (later_moved seat w.hall.seals w.genuine p (logging_none w c) (λ t s e. e)) refl quiet holds.log (omega arith) r)
+      (seat_stays kind c seat (later_stepped seat p) refl quiet holds.log (omega arith) r)

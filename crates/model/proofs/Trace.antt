@@ -17,7 +17,7 @@ use Rattle.model.specs.Runs.{Lawful, Opened, Run, Unforged}
 use Rattle.model.specs.Slips.{collecting, is_its_slip}
 use Rattle.model.proofs.Effects.{BeginCall, by_read, by_write, its_slip}
 use Rattle.model.proofs.Events.{slip_same, Event, nothing, begins, ends, BegunLog, EndedLog, begins_slip, slips, event_of}
-use Rattle.model.proofs.Growing.{Grows, grows_same, grows_trans, event_grows, ended_logged}
+use Rattle.model.proofs.Growing.{Grows, grows_same, grows_trans, event_grows, ended_logged, along}
 use Rattle.model.proofs.Invariants.{KnownPair, the_opening, a_write as of_a_write, Holds}
 use Rattle.model.proofs.RunKeeps.{sealed_at, holds_at}
 use Rattle.model.proofs.Ways.{way_in, not_some}
@@ -45,15 +45,7 @@ module _ {V : Type 0} (kind : Kind V) (v : V) (start : World) (lawful : Lawful k
 
   -- the log goes on from each position to each later one
   pub grows : (i j : ℕ) → i ≤ j → j ≤ run.calls → Grows (hall_at i) (hall_at j)
-  grows i zero le lj = subst (λ m. Grows (hall_at m) (hall_at 0)) zero_is (grows_same (hall_at 0))
-    where
-      zero_is : 0 ≡ i
-      zero_is = omega arith
-  grows i (suc j) le lj = by_place (λ below. grows i j below (omega arith)) (ℕ_discrete i (suc j))
-    where
-      by_place : (i ≤ j → Grows (hall_at i) (hall_at j)) → Dec (i ≡ suc j) → Grows (hall_at i) (hall_at (suc j))
-      by_place before (yes e) = subst (λ m. Grows (hall_at m) (hall_at (suc j))) (sym e) (grows_same (hall_at (suc j)))
-      by_place before (no ne) = subst (λ m. Grows (hall_at i) (hall_at m)) (add-one j) (grows_trans (before (omega arith)) (event_grows (event j (omega arith))))
+  grows = along (λ i j. Grows (hall_at i) (hall_at j)) run.calls (λ i. grows_same (hall_at i)) (λ i j g lt. grows_trans g (event_grows (event j lt)))
 
   -- what the call at position o began: the operation at place k, of client c, with this word
   pub record StartOf (o c k : ℕ) (word : Option Word) : Type 0 where
