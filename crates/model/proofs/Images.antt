@@ -1,6 +1,6 @@
 -- Lists of numbers: places and members of an image, and the numbers below a bound that pass a test.
 -- Nothing is assumed.
-use Rattle.std.proofs.Common.{◌≡◌, ℕ, zero, suc, ◌<◌, Bool, true, false, cond, ◌⊎◌, List, [], ◌∷◌, ◌++◌, map, sym, refl, ap, ◌∙◌, inl, inr, arith}
+use Rattle.std.proofs.Common.{◌≡◌, ℕ, zero, suc, ◌<◌, Bool, true, false, cond, ◌⊎◌, List, [], ◌∷◌, ◌++◌, map, sym, refl, ap, ◌∙◌, inl, inr, arith, subst}
 use mathlib.Core.List.Memᴰ
 use mathlib.Core.List.Memᴰ.{head as here}
 use mathlib.Core.List.Memᴰ.{tail as there}
@@ -34,6 +34,13 @@ split_from f (x ∷ xs) [] back y e = record { before = []; at = x; after = xs; 
 split_from f (x ∷ xs) (z ∷ front) back y e =
     let s = split_from f xs front back y (cons_rest e) in
     record { before = x ∷ s.before; at = s.at; after = s.after; is = ap (λ l. x ∷ l) s.is; front_is = λ i. cons_first e i ∷ s.front_is i; at_is = s.at_is }
+
+-- what stands at the place and before it is in the list
+pub split_at : {f : ℕ → ℕ} {xs front : List ℕ} {y : ℕ} (s : SplitFrom f xs front y) → s.at ∈ xs
+split_at s = subst (λ l. s.at ∈ l) (sym s.is) (Memᴰ.append_right s.before (here refl))
+
+pub split_before : {f : ℕ → ℕ} {xs front : List ℕ} {y k : ℕ} (s : SplitFrom f xs front y) → k ∈ s.before → k ∈ xs
+split_before {k = k} s m = subst (λ l. k ∈ l) (sym s.is) (Memᴰ.append_left (s.at ∷ s.after) m)
 
 -- members of an image
 pub map_member : (f : ℕ → ℕ) {i : ℕ} {xs : List ℕ} → i ∈ xs → f i ∈ map f xs

@@ -16,7 +16,7 @@ use Rattle.model.specs.Order.{Operation, Ended, Finished, Writes, value_written,
 use Rattle.model.specs.Runs.{Lawful, Opened, Run, Unforged}
 use Rattle.model.proofs.Effects.{BeginCall, by_read, by_write}
 use Rattle.model.proofs.Events.{EndedLog, begins_slip}
-use Rattle.model.proofs.Images.{split_from, map_member, comes_from, below, IsBelow, below_only, below_all, below_distinct}
+use Rattle.model.proofs.Images.{split_from, map_member, comes_from, below, IsBelow, below_only, below_all, below_distinct, split_at, split_before}
 use Rattle.model.proofs.Growing.{Grows, ended_logged}
 use Rattle.model.proofs.Invariants.{stamp_number, StampedWrite, KnownPair, the_opening, a_write as of_a_write, OverBefore, Holds}
 use Rattle.model.proofs.RunKeeps.{sealed_at, holds_at}
@@ -295,17 +295,14 @@ module _ {V : Type 0} (kind : Kind V) (v : V) (start : World) (lawful : Lawful k
       once front back i e m =
           let s = split_from where_begun places front back i e in
           let c = comes_from where_begun s.before i (subst (λ l. i ∈ l) (sym s.front_is) m) in
-          let here_in = subst (λ l. s.at ∈ l) (sym s.is) (Memᴰ.append_right s.before (here refl)) in
-          let there_in = subst (λ l. c.at ∈ l) (sym s.is) (Memᴰ.append_left (s.at ∷ s.after) c.inside) in
-          let same = one_place c.at s.at (in_log c.at there_in).lower (in_log s.at here_in).lower (c.at_is ∙ sym s.at_is) in
+          let same = one_place c.at s.at (in_log c.at (split_before s c.inside)).lower (in_log s.at (split_at s)).lower (c.at_is ∙ sym s.at_is) in
           ordered.once s.before s.after s.at s.is (subst (λ z. z ∈ s.before) same c.inside)
 
       time : (front back : List ℕ) (o p j : ℕ) (u : V) → map where_begun places ≡ front ++ (j ∷ back) → Ended run o p u → p < j → o ∈ front
       time front back o p j u is e lt =
           let s = split_from where_begun places front back j is in
           let t = last_end o p u e in
-          let at_in = subst (λ l. s.at ∈ l) (sym s.is) (Memᴰ.append_right s.before (here refl)) in
-          let k = known_start s.at (in_log s.at at_in).lower in
+          let k = known_start s.at (in_log s.at (split_at s)).lower in
           subst (λ l. o ∈ l) s.front_is (subst (λ z. z ∈ map where_begun s.before) t.begun
           (map_member where_begun (ordered.time s.before s.after e.place s.at s.is
           (below_all (standing last) (length last.log.list) e.place t.logged (ended_stands last e.place t.over))
@@ -321,13 +318,12 @@ module _ {V : Type 0} (kind : Kind V) (v : V) (start : World) (lawful : Lawful k
       reads front back j p u is none e =
           let s = split_from where_begun places front back j is in
           let t = last_end j p u e in
-          let at_in = subst (λ l. s.at ∈ l) (sym s.is) (Memᴰ.append_right s.before (here refl)) in
-          let lower = (in_log s.at at_in).lower in
+          let lower = (in_log s.at (split_at s)).lower in
           let same = one_place e.place s.at t.logged lower (t.begun ∙ sym s.at_is) in
           let no_write = written_at s.at lower ∙ ap (λ o. is_some (value_written (run.call o))) s.at_is ∙ ap (λ z. is_some z) none in
           let word_is = ordered.reads s.before s.after s.at s.is no_write
           ∙ ap (λ x. last_written (λ k. (operation_of last k).writes) (λ k. (operation_of last k).pair.word.0) x s.before) opening_word
-          ∙ held_same s.before (λ k m. (in_log k (subst (λ l. k ∈ l) (sym s.is) (Memᴰ.append_left (s.at ∷ s.after) m))).lower) v
+          ∙ held_same s.before (λ k m. (in_log k (split_before s m)).lower) v
           ∙ ap (λ l. (kind.word (held_after run v l)).0) s.front_is in
           sym (some_same (sym (lawful.kept (held_after run v front)) ∙ ap kind.value (sym (word_same word_is)) ∙ ap (λ k. kind.value (operation_of last k).pair.word) (sym same) ∙ t.value))
         where
