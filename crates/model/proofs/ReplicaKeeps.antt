@@ -72,11 +72,19 @@ module _ (kind : ℕ) (sealed : List Text) (w : World) (small : kind ≤ 63) (ho
     (n : ℕ) (lt : n < length w.hall.post.list) (replica : Replica) (inside : replica.number < w.hall.rules.replicas)
     (room : is_full w.hall.post ≡ false)
     (fits : fits_replica (kind_of (entry_of w.hall n).kind) (entry_of w.hall n) replica ≡ true) where
+  -- the step has saved and posted as decided
+  record Moved (place : ℕ → Option Card) (saves : Option ℕ) (post : Option Entry) (d : Decision) : Type 0 where
+    done : saving d.save (shelf_of w) replica.number d.post ≡ record { answer = Ok post; place = place; saves = saves }
+
+  moved_as : (place : ℕ → Option Card) (saves : Option ℕ) (post : Option Entry) (d d' : Decision) → d ≡ d' → Moved place saves post d → Moved place saves post d'
+  moved_as place saves post d d' is m = subst (λ z. Moved place saves post z) is m
+
   -- an entry is posted in its name, and no card is saved
   posts_only : (x : Entry) (place : ℕ → Option Card) (saves : Option ℕ) (post : Option Entry) → x.sender ≡ 100 + replica.number
       → (Honest (views w.hall) replica.number → Owed kind w replica.number x)
-      → Unsaved w (Some x) post place saves → Holds kind sealed (replica_world w place saves post)
-  posts_only x place saves post by owed u =
+      → Moved place saves post (record { save = None; post = Some x }) → Holds kind sealed (replica_world w place saves post)
+  posts_only x place saves post by owed m =
+      let u = unsaved w replica.number (Some x) post place saves m.done in
       subst (λ p. Holds kind sealed (replica_world w place saves p)) u.post_is
       (subst₂ (λ pl sv. Holds kind sealed (replica_world w pl sv (Some x))) u.place_is u.saves_is
       (replica_posts kind sealed w replica.number x holds room by owed))
@@ -143,22 +151,24 @@ module _ (kind : ℕ) (sealed : List Text) (w : World) (small : kind ≤ 63) (ho
 
   -- a card is saved and an entry is posted
   saves_and_posts : (card : Card) (x : Entry) (place : ℕ → Option Card) (saves : Option ℕ) (post : Option Entry) → x.sender ≡ 100 + replica.number
-      → DidSave w replica.number card (Some x) post place
+      → Moved place saves post (record { save = Some card; post = Some x })
       → (Honest (views w.hall) replica.number → CardRule kind w replica.number card)
       → (Holds kind sealed (saved_in w (put w.hall.place replica.number card) saves) → Honest (views w.hall) replica.number
       → Owed kind (saved_in w (put w.hall.place replica.number card) saves) replica.number x)
       → Holds kind sealed (replica_world w place saves post)
-  saves_and_posts card x place saves post by did rule owed =
+  saves_and_posts card x place saves post by m rule owed =
+      let did = did_save w replica.number card (Some x) post place saves m.done in
       let holds1 = saves_card card saves rule in
       subst (λ p. Holds kind sealed (replica_world w place saves p)) did.post_is
       (subst (λ pl. Holds kind sealed (replica_world w pl saves (Some x))) did.place_is
       (replica_posts kind sealed (saved_in w (put w.hall.place replica.number card) saves) replica.number x holds1 room by (owed holds1)))
 
   saves_only : (card : Card) (place : ℕ → Option Card) (saves : Option ℕ) (post : Option Entry)
-      → DidSave w replica.number card None post place
+      → Moved place saves post (record { save = Some card; post = None })
       → (Honest (views w.hall) replica.number → CardRule kind w replica.number card)
       → Holds kind sealed (replica_world w place saves post)
-  saves_only card place saves post did rule =
+  saves_only card place saves post m rule =
+      let did = did_save w replica.number card None post place saves m.done in
       subst (λ p. Holds kind sealed (replica_world w place saves p)) did.post_is
       (subst (λ pl. Holds kind sealed (replica_world w pl saves None)) did.place_is (saves_card card saves rule))
 
@@ -210,30 +220,24 @@ module _ (kind : ℕ) (sealed : List Text) (w : World) (small : kind ≤ 63) (ho
       genuine_higher true = genuine_at 6 k h.checks
       genuine_higher false = (mine.rule honest).genuine
 
-  record Moved (place : ℕ → Option Card) (saves : Option ℕ) (post : Option Entry) (d : Decision) : Type 0 where
-    done : saving d.save (shelf_of w) replica.number d.post ≡ record { answer = Ok post; place = place; saves = saves }
-
-  moved_as : (place : ℕ → Option Card) (saves : Option ℕ) (post : Option Entry) (d d' : Decision) → d ≡ d' → Moved place saves post d → Moved place saves post d'
-  moved_as place saves post d d' is m = subst (λ z. Moved place saves post z) is m
-
   by_move : (place : ℕ → Option Card) (saves : Option ℕ) (post : Option Entry) (d : Decision) → Moved place saves post d
       → ReplicaMove w.hall.rules replica mine.card (entry_of w.hall n) checks d → Holds kind sealed (replica_world w place saves post)
   unfolding checks history mine
   by_move place saves post d m (talks t) =
       posts_only t.entry place saves post t.sender (λ honest. owed_unruled kind w replica.number t.entry (omega (arith, t.kind_low)))
-      (unsaved w replica.number _ post place saves (moved_as place saves post _ _ t.decision m).done)
+      (moved_as place saves post _ _ t.decision m)
   by_move place saves post d m (answers_read k s is) =
       posts_only _ place saves post refl
       (λ honest. owed_pair kind w replica.number (entry_of w.hall n) mine.card (mine.rule honest) mine.kept s.epoch s.inside s.ready (read_posted k))
-      (unsaved w replica.number _ post place saves (moved_as place saves post _ _ is m).done)
+      (moved_as place saves post _ _ is m)
   by_move place saves post d m (keeps k s g lower is) =
       posts_only _ place saves post refl
       (λ honest. owed_ack kind sealed w replica.number (entry_of w.hall n) mine.card holds (mine.rule honest) mine.kept s.epoch s.inside s.ready (write_posted k)
       (not_above (pair_of (entry_of w.hall n)) mine.card.pair (small_writer _ (pair_known k g)) (small_writer _ (mine.rule honest).known) lower))
-      (unsaved w replica.number _ post place saves (moved_as place saves post _ _ is m).done)
+      (moved_as place saves post _ _ is m)
   by_move place saves post d m (takes k s g higher_one is) =
       saves_and_posts (holding mine.card (pair_of (entry_of w.hall n))) _ place saves post refl
-      (did_save w replica.number _ _ post place saves (moved_as place saves post _ _ is m).done)
+      (moved_as place saves post _ _ is m)
       (λ honest. card_raised (pair_of (entry_of w.hall n))
       (le_of_lt (above_higher (pair_of (entry_of w.hall n)) mine.card.pair (small_writer _ (pair_known k g)) (small_writer _ (mine.rule honest).known) higher_one))
       (pair_known k g) (genuine_at 2 k g) (mine.rule honest))
@@ -242,24 +246,24 @@ module _ (kind : ℕ) (sealed : List Text) (w : World) (small : kind ≤ 63) (ho
       (saved_rule _ saves holds1 honest) (put_there _) s.epoch s.inside s.ready (write_posted k) (omega arith))
   by_move place saves post d m (enters k en is) =
       saves_and_posts (entering mine.card (configuration_of (entry_of w.hall n))) _ place saves post refl
-      (did_save w replica.number _ _ post place saves (moved_as place saves post _ _ is m).done)
+      (moved_as place saves post _ _ is m)
       (λ honest. card_entering (configuration_of (entry_of w.hall n)) (config_known k en.checks) en.next en.ready (mine.rule honest))
       (λ holds1 honest. owed_unruled kind _ replica.number _ (omega arith))
   by_move place saves post d m (enters_outside k en is) =
       saves_only (entering mine.card (configuration_of (entry_of w.hall n))) place saves post
-      (did_save w replica.number _ _ post place saves (moved_as place saves post _ _ is m).done)
+      (moved_as place saves post _ _ is m)
       (λ honest. card_entering (configuration_of (entry_of w.hall n)) (config_known k en.checks) en.next en.ready (mine.rule honest))
   by_move place saves post d m (gives k g is) =
       posts_only _ place saves post refl
       (λ honest. owed_stock kind w replica.number ((entry_of w.hall n).sender - 100) (entry_of w.hall n) mine.card (mine.rule honest) mine.kept
       (from_replica (fits_at 3 k)) g.left (ap (λ z. member z replica.number) (sym (transfer_known k g.checks).set) ∙ g.inside))
-      (unsaved w replica.number _ post place saves (moved_as place saves post _ _ is m).done)
+      (moved_as place saves post _ _ is m)
     where
       from_replica : is_replica_number (entry_of w.hall n).sender ≡ true → (entry_of w.hall n).sender ≡ 100 + ((entry_of w.hall n).sender - 100)
       from_replica r = grind (arith, nat_tests)
   by_move place saves post d m (hears k from h is) =
       saves_only (stocked w.hall.rules mine.card from (pair_of (entry_of w.hall n))) place saves post
-      (did_save w replica.number _ _ post place saves (moved_as place saves post _ _ is m).done)
+      (moved_as place saves post _ _ is m)
       (λ honest. hears_rule k from h honest)
 
   -- whatever a replica does with the entry keeps the rules
