@@ -59,7 +59,7 @@ pub stamps_line : {a c : Line} → Stamps a ≡ Stamps c → a ≡ c
 stamps_line p = cc
 
 pub not_moves : {P : Type 0} {a c : Line} {b : Option Entry} → Stamps a ≡ Moves c b → P
-not_moves p = let z : ◌≡◌ {A = ℕ} 0 1 = cc in absurd (omega arith)
+not_moves p = absurd cc
 
 -- what became of the operation of the client's seat
 pub data LineChange (op : Operation) (before line : Line) : Type 0 where

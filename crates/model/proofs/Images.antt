@@ -25,7 +25,7 @@ cons_rest : {x y : ℕ} {xs ys : List ℕ} → (x ∷ xs) ≡ (y ∷ ys) → xs 
 cons_rest p = cc
 
 not_cons : {P : Type 0} {x : ℕ} {xs : List ℕ} → ◌≡◌ {A = List ℕ} [] (x ∷ xs) → P
-not_cons p = let z : ◌≡◌ {A = ℕ} 0 1 = cc in absurd (omega arith)
+not_cons p = absurd cc
 
 pub split_from : (f : ℕ → ℕ) (xs front back : List ℕ) (y : ℕ) → map f xs ≡ front ++ (y ∷ back) → SplitFrom f xs front y
 split_from f [] [] back y e = not_cons e

@@ -18,13 +18,13 @@ replica_same : {c d : Replica} → ◌≡◌ {A = Option Party} (Some (AReplica 
 replica_same p = cc
 
 mixed : {P : Type 0} {r : Replica} {c : Client} → ◌≡◌ {A = Option Party} (Some (AReplica r)) (Some (AClient c)) → P
-mixed p = let z : ◌≡◌ {A = ℕ} 0 1 = cc in absurd (omega arith)
+mixed p = absurd cc
 
 source_mixed : {P : Type 0} {r : Replica} → ◌≡◌ {A = Option Party} (Some TheSource) (Some (AReplica r)) → P
-source_mixed p = let z : ◌≡◌ {A = ℕ} 0 1 = cc in absurd (omega arith)
+source_mixed p = absurd cc
 
 source_client : {P : Type 0} {r : Client} → ◌≡◌ {A = Option Party} (Some TheSource) (Some (AClient r)) → P
-source_client p = let z : ◌≡◌ {A = ℕ} 0 1 = cc in absurd (omega arith)
+source_client p = absurd cc
 
 mapped_client : (o : Option Client) (c : Client) → option_map AClient o ≡ Some (AClient c) → o ≡ Some c
 mapped_client None c p = not_some p

@@ -9,7 +9,7 @@ way false e yes_way no_way = no_way refl e
 
 -- an error is no success
 pub not_ok : {A E P : Type 0} {e : E} {a : A} → ◌≡◌ {A = Result A E} (Err e) (Ok a) → P
-not_ok p = let z : ◌≡◌ {A = ℕ} 0 1 = cc in absurd (omega arith)
+not_ok p = absurd cc
 
 pub ok_same : {A E : Type 0} {a b : A} → ◌≡◌ {A = Result A E} (Ok a) (Ok b) → a ≡ b
 ok_same p = cc
@@ -18,7 +18,7 @@ pub some_same : {A : Type 0} {a b : A} → ◌≡◌ {A = Option A} (Some a) (So
 some_same p = cc
 
 pub not_some : {A P : Type 0} {a : A} → ◌≡◌ {A = Option A} None (Some a) → P
-not_some p = let z : ◌≡◌ {A = ℕ} 0 1 = cc in absurd (omega arith)
+not_some p = absurd cc
 
 -- one of the two ways of a test, under a function
 pub way_in : {X Y P : Type 0} (f : X → Y) (b : Bool) {x y : X} {r : Y} → f (cond b x y) ≡ r → (b ≡ true → f x ≡ r → P) → (b ≡ false → f y ≡ r → P) → P
