@@ -1,6 +1,6 @@
 -- What a client asked last: of two READs or WRITEs of one client the later has the higher round.
 -- Told from the places of entries in the post, in a history in which every entry is justified.
-use Rattle.std.proofs.Common.{◌≡◌, ℕ, zero, suc, ◌-◌, ◌<◌, List, [], ◌∷◌, reverse, length, get_or, sym, ap, ◌∙◌, subst, arith}
+use Rattle.std.proofs.Common.{◌≡◌, ℕ, zero, suc, ◌-◌, ◌<◌, List, [], ◌∷◌, reverse, length, get_or, sym, subst, arith}
 use Rattle.std.proofs.lemmas.List.{get_or-reverse, length-reverse}
 use Rattle.wire.specs.declared.entry.Entry.{Entry}
 use Rattle.quorums.specs.Quorums.{Views}

@@ -1,6 +1,6 @@
 -- A begin keeps every rule: READ is posted in the next round, and the operation is logged with the next moment.
 -- The client is idle, log and post have room, and a write has a seal left.
-use Rattle.std.proofs.Common.{◌≡◌, ℕ, ◌+◌, ◌-◌, ◌<◌, ◌≤◌, min, true, false, ◌&&◌, eqb, List, [], ◌∷◌, ◌++◌, length, get_or, set, is_some, Option, sym, refl, ap, ◌∙◌, subst, arith, length-append, length-set}
+use Rattle.std.proofs.Common.{◌≡◌, ℕ, ◌+◌, ◌-◌, ◌<◌, ◌≤◌, min, true, false, List, [], ◌∷◌, ◌++◌, length, is_some, Option, sym, refl, ap, ◌∙◌, subst, arith, length-append, length-set}
 use native.Mathlib.Decide.{dec_lt}
 use borrow.Author.Tests.{clash}
 use Rattle.std.proofs.lemmas.List.{get_or_past}
@@ -19,8 +19,8 @@ use Rattle.histories.specs.Histories.{Good}
 use Rattle.histories.proofs.Posting.{justified_read}
 use Rattle.halls.specs.declared.operation.Operation.{Operation}
 use Rattle.halls.specs.declared.seat.Seat.{Seat}
-use Rattle.model.specs.Tables.{is_full, added, places}
-use Rattle.model.specs.Halls.{World, no_entry, no_operation, no_seat, seat_of, operation_of, with_post, with_seat, with_log, end_of}
+use Rattle.model.specs.Tables.{is_full, added}
+use Rattle.model.specs.Halls.{World, no_operation, seat_of, operation_of, with_post, with_seat, with_log, end_of}
 use Rattle.model.specs.Beginning.{new_operation, word_or_none}
 use Rattle.model.proofs.Frames.{history_added, card_stays, quiet_below, later_configuration, later_seat, later_text}
 use Rattle.model.proofs.Invariants.{views, history, stamp_number, StampedWrite, OverBefore, SettledSomewhere, OperationRule, ReadingRule, SeatRule, LogRule, ends, Holds, Later}

@@ -14,12 +14,9 @@ use Rattle.rules.specs.Genuine.{quorum_size}
 use Rattle.replicas.specs.Decisions.{holding, entering, higher, stocked}
 use Rattle.quorums.specs.Quorums.{Views, Within}
 use Rattle.quorums.proofs.Insertion.{none_in_empty, empty_within, inserted_cases, inserted_within}
-use Rattle.histories.specs.Histories.{Served, Stocked, StockedTo, Evidence, Fetched}
-use Rattle.histories.proofs.Growth.{evidence_grows, stocked_to_grows}
-use Rattle.histories.proofs.Extension.{evidence_extends}
+use Rattle.histories.specs.Histories.{Stocked, StockedTo, Evidence, Fetched}
 use Rattle.model.specs.Halls.{World}
-use Rattle.model.proofs.Frames.{later_views, later_past, later_pair, later_genuine}
-use Rattle.model.proofs.Invariants.{views, history, stamp_number, issued_as, KnownConfiguration, KnownPair, Genuine, CardRule, Later}
+use Rattle.model.proofs.Invariants.{views, history, stamp_number, issued_as, KnownConfiguration, KnownPair, Genuine, CardRule}
 
 -- a higher stamp serves as evidence too
 pub stocked_raised : {h : List Entry} {n q a s : ℕ} (t : ℕ) → s ≤ t → StockedTo h n q a s → StockedTo h n q a t

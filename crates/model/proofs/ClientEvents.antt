@@ -1,6 +1,6 @@
 -- What a step of a client does to its line of the log: nothing, or it takes its stamp, or it ends.
 -- Told from the moves of a client, in a world that meets the rules.
-use Rattle.std.proofs.Common.{◌≡◌, ℕ, Bool, true, false, not, ◌&&◌, eqb, ◌⊎◌, Ok, Err, Option, sym, refl, ap, ◌∙◌, subst, subst₂, inl, inr, arith}
+use Rattle.std.proofs.Common.{◌≡◌, ℕ, Bool, true, false, not, ◌&&◌, eqb, ◌⊎◌, Ok, Err, Option, sym, refl, ap, ◌∙◌, subst, subst₂, inl, inr}
 use borrow.Author.Tests.{clash}
 use Rattle.wire.specs.declared.entry.Entry.{Entry}
 use Rattle.wire.specs.declared.pair.Seal.{Seal}

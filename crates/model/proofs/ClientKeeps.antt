@@ -23,7 +23,7 @@ use Rattle.clients.specs.Steps.{Stepped, acted, signing}
 use Rattle.clients.specs.Turns.{Verdict, decided, is_quorum, read_of, write_of}
 use Rattle.halls.specs.declared.operation.Operation.{Operation}
 use Rattle.halls.specs.declared.seat.Seat.{Seat}
-use Rattle.model.specs.Tables.{Table, is_full, added}
+use Rattle.model.specs.Tables.{is_full}
 use Rattle.model.specs.Halls.{World, no_operation, seat_of, operation_of, desk_of}
 use Rattle.model.specs.Answers.{has_moment}
 use Rattle.model.specs.Calls.{text_if_stamped, GenuineThen}

@@ -10,7 +10,6 @@ use Rattle.wire.specs.Sets.{member, inserted}
 use Rattle.wire.specs.Parties.{Client, Replica}
 use Rattle.rules.specs.Genuine.{quorum_size, genuine_by_kind, genuine_entry}
 use Rattle.rules.specs.Posts.{config_entry}
-use Rattle.clients.specs.declared.line.Line.{Line}
 use Rattle.clients.specs.Lines.{is_open, counting}
 use Rattle.clients.specs.Turns.{is_quorum}
 use Rattle.quorums.proofs.Insertion.{inserted_within}

@@ -12,7 +12,7 @@ use Rattle.clients.specs.Lines.{is_open}
 use Rattle.halls.specs.declared.fault.HallFault.{HallFault}
 use Rattle.halls.specs.declared.operation.Operation.{Operation}
 use Rattle.halls.specs.declared.seat.Seat.{Seat}
-use Rattle.model.specs.Tables.{Table, added}
+use Rattle.model.specs.Tables.{Table}
 use Rattle.model.specs.Halls.{Hall, World, Kind, no_operation, no_seat, seat_of, operation_of, end_of, with_post}
 use Rattle.model.specs.Answers.{Answer, done, slip, pair, refused}
 use Rattle.model.specs.Beginning.{new_operation}

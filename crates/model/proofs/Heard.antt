@@ -1,6 +1,6 @@
 -- One more PAIR or ACK is counted: what is said of the counted replicas holds of the new one too.
 -- The lemmas speak of one world, in which the entry that is handed over stands in the post.
-use Rattle.std.proofs.Common.{◌≡◌, ℕ, ◌+◌, ◌-◌, ◌*◌, ◌<◌, ◌≤◌, Bool, true, false, cond, ◌&&◌, eqb, leb, List, ◌∷◌, length, Some, sym, refl, ap, ◌∙◌, subst, ⊎_elim, arith, subst₂}
+use Rattle.std.proofs.Common.{◌≡◌, ℕ, ◌+◌, ◌-◌, ◌<◌, ◌≤◌, Bool, true, false, cond, ◌&&◌, eqb, leb, List, ◌∷◌, length, Some, sym, refl, ap, ◌∙◌, subst, ⊎_elim, arith, subst₂}
 use Rattle.std.proofs.lemmas.Bool.{both_ways, and_parts, eqb-true, eqb-false, leb-true}
 use Rattle.wire.specs.declared.entry.Entry.{Entry}
 use Rattle.wire.specs.declared.pair.Pair.{Pair}

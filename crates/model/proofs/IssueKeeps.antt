@@ -1,6 +1,6 @@
 -- Issue keeps every rule: one more configuration in the roll, its text sealed, CONFIG in the post.
 -- The set has been found right, and roll and post have room.
-use Rattle.std.proofs.Common.{◌≡◌, ℕ, ◌+◌, ◌*◌, ◌^◌, ◌<◌, ◌≤◌, Bool, true, false, ◌&&◌, eqb, ◌⊎◌, List, [], ◌∷◌, ◌++◌, length, get_or, sym, refl, ap, ◌∙◌, subst, inl, inr, le_of_eq, arith, length-append, eqb-true, leb-true}
+use Rattle.std.proofs.Common.{◌≡◌, ℕ, ◌+◌, ◌*◌, ◌^◌, ◌<◌, ◌≤◌, Bool, true, false, ◌⊎◌, List, [], ◌∷◌, ◌++◌, length, get_or, sym, refl, ap, ◌∙◌, subst, inl, inr, le_of_eq, arith, length-append, eqb-true, leb-true}
 use Rattle.std.proofs.lemmas.Bool.{not-false, and_parts}
 use mathlib.Core.List.Memᴰ
 use mathlib.Core.List.{Memᴰ}
@@ -14,13 +14,12 @@ use Rattle.wire.specs.Texts.{configuration_text}
 use Rattle.rules.specs.Posts.{config_entry}
 use Rattle.source.specs.declared.state.Source.{Source}
 use Rattle.quorums.specs.Quorums.{Sound}
-use Rattle.quorums.proofs.Meeting.{honest_before}
 use Rattle.histories.specs.Places.{done, next}
 use Rattle.histories.specs.Histories.{Good}
 use Rattle.histories.proofs.Extension.{good_extends}
 use Rattle.histories.proofs.Posting.{justified_unruled}
-use Rattle.model.specs.Tables.{is_full, added, places}
-use Rattle.model.specs.Halls.{World, no_configuration, no_entry, seat_of, with_post, with_seals, with_source}
+use Rattle.model.specs.Tables.{is_full, added}
+use Rattle.model.specs.Halls.{World, no_configuration, seat_of, with_post, with_seals, with_source}
 use Rattle.model.specs.Issuing.{is_right_set, has_too_many_marked}
 use Rattle.model.proofs.Frames.{history_added, later_views, card_stays, quiet_below, seat_stays, later_text}
 use Rattle.model.proofs.Invariants.{views, history, issued_as, Sized, RollRule, KnownText, of_configuration, Holds, Later}

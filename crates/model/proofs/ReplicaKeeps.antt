@@ -1,6 +1,6 @@
 -- The step of a replica keeps every rule.
 -- The entry that is handed over stands in the post, and the post has room.
-use Rattle.std.proofs.Common.{◌≡◌, ℕ, ◌+◌, ◌-◌, ◌<◌, ◌≤◌, Bool, true, false, cond, ◌&&◌, eqb, leb, List, length, Some, None, Ok, Err, Option, sym, refl, ap, ◌∙◌, subst, subst₂, le_of_lt, arith, eq-eqb, eqb-true, leb-true}
+use Rattle.std.proofs.Common.{◌≡◌, ℕ, ◌+◌, ◌-◌, ◌<◌, ◌≤◌, Bool, true, false, cond, eqb, List, length, Some, None, Ok, Err, Option, sym, refl, ap, ◌∙◌, subst, subst₂, le_of_lt, arith, eq-eqb, eqb-true}
 use Rattle.std.proofs.lemmas.Bool.{and_parts}
 use Rattle.std.proofs.lemmas.Bool.Decides.{nat_tests}
 use Rattle.wire.specs.declared.entry.Entry.{Entry}
@@ -10,12 +10,10 @@ use Rattle.wire.specs.Entries.{kind_of, pair_of, configuration_of}
 use Rattle.wire.specs.Parties.{Replica}
 use Rattle.wire.specs.Sets.{member}
 use Rattle.wire.specs.Stamps.{above}
-use Rattle.wire.proofs.Made.{single_number}
 use Rattle.stores.specs.declared.card.Card.{Card}
 use Rattle.stores.specs.declared.fault.StoreFault.TheVariants.{NoSave}
 use Rattle.stores.specs.Saved.{after, put, none_left, one_fewer}
 use Rattle.rules.specs.Genuine.{genuine_entry, genuine_by_kind}
-use Rattle.rules.specs.Senders.{sender_within}
 use Rattle.replicas.specs.declared.decision.Decision.{Decision}
 use Rattle.replicas.specs.Decisions.{Verdict, holding, entering, stocked, decided}
 use Rattle.replicas.specs.Steps.{after_save, saving, acted, with_card}
@@ -36,7 +34,7 @@ use Rattle.model.proofs.ReplicaMoves.{ReplicaMove, talks, answers_read, keeps, t
 use Rattle.model.proofs.ReplicaPosts.{Owed, replica_posts, owed_unruled, owed_pair, owed_ack, owed_stock}
 use Rattle.model.proofs.Seals.{checked_pair, checked_configuration, known_writer}
 use Rattle.model.proofs.Stamps.{above_higher, not_above}
-use Rattle.model.proofs.Ways.{way, not_ok, ok_same, some_same, not_some}
+use Rattle.model.proofs.Ways.{not_ok, ok_same, some_same}
 
 -- the world after a step of a replica
 abbrev pub replica_world : World → (ℕ → Option Card) → Option ℕ → Option Entry → World

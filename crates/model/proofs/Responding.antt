@@ -28,7 +28,6 @@ use Rattle.model.specs.Halls.{Hall, World, Kind, seat_of, operation_of, end_of}
 use Rattle.model.specs.Answers.{slip}
 use Rattle.model.specs.Calls.{deliver, called}
 use Rattle.model.specs.Delivering.{deliver_called, entry_of, fits_client, is_replica_number}
-use Rattle.model.specs.Order.{Operation, a_read, a_write}
 use Rattle.model.specs.Response.{Asks, AnswersTo, to_read, to_write, LastAsked, UnderWay, Open, Handed, Responsive}
 use Rattle.model.specs.Runs.{Lawful, Opened, Run, Unforged}
 use Rattle.model.proofs.Asked.{NumberOf, posted_number, asked_rise}
@@ -36,7 +35,7 @@ use Rattle.model.proofs.ClientMoves.{heard}
 use Rattle.model.proofs.ClientStamps.{known_low}
 use Rattle.model.proofs.Closing.{FoundPair, pair_closes}
 use Rattle.model.proofs.Effects.{Effect, effect_of}
-use Rattle.model.proofs.Events.{begins_slip, slips}
+use Rattle.model.proofs.Events.{begins_slip}
 use Rattle.model.proofs.Frames.{posted_as}
 use Rattle.model.proofs.Growing.{along}
 use Rattle.model.proofs.Handing.{Counts, post_small, sent_within, move_counts, heeded_pair, heeded_ack, handed_counts}

@@ -19,7 +19,7 @@ use Rattle.halls.specs.declared.seat.Seat.{Seat}
 use Rattle.model.specs.Halls.{Hall, World, Kind, no_seat, seat_of}
 use Rattle.model.specs.Answers.{Answer, done, slip}
 use Rattle.model.specs.Calls.{Call, deliver, call_off}
-use Rattle.model.specs.Delivering.{entry_of, client_moves}
+use Rattle.model.specs.Delivering.{entry_of}
 use Rattle.model.specs.Slips.{released}
 use Rattle.model.proofs.ClientEvents.{Turned, moved_to, stamped_to, turned}
 use Rattle.model.proofs.ClientMoves.{ClientMove, counts_pair, ends_read, writes_back, takes_stamp, counts_ack, ends_write, goes_on, reads_again, writes_again, replies}

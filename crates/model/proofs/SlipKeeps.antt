@@ -1,13 +1,12 @@
 -- Call off, collect, lodge and redeem keep every rule: they change one seat, and nothing that its rule speaks of.
 -- The lemmas speak of the hall that each call leaves.
-use Rattle.std.proofs.Common.{◌≡◌, ℕ, ◌-◌, ◌<◌, ◌≤◌, ◌&&◌, eqb, List, length, get_or, set, Option, sym, refl, subst, arith, length-set, get_or-set_other, get_or-set_same, eqb-true}
-use native.Mathlib.Decide.{ℕ_discrete}
+use Rattle.std.proofs.Common.{ℕ, ◌-◌, ◌≤◌, List, set, Option, sym, refl, arith, length-set}
 use borrow.Author.Tests.{clash}
 use Rattle.wire.specs.declared.pair.Seal.{Seal}
 use Rattle.wire.specs.declared.text.Text.{Text}
 use Rattle.histories.specs.Places.{done}
 use Rattle.halls.specs.declared.seat.Seat.{Seat}
-use Rattle.model.specs.Halls.{World, no_seat, seat_of}
+use Rattle.model.specs.Halls.{World}
 use Rattle.model.specs.Slips.{freed, holding_slip}
 use Rattle.model.proofs.Frames.{seat_stays}
 use Rattle.model.proofs.Invariants.{history, SeatRule, Holds}

@@ -7,7 +7,6 @@ use Rattle.wire.specs.declared.entry.Entry.{Entry}
 use Rattle.wire.specs.declared.pair.Seal.{Seal}
 use Rattle.wire.specs.declared.text.Text.{Text}
 use Rattle.wire.specs.Texts.{pair_text}
-use Rattle.wire.specs.Parties.{Client}
 use Rattle.stores.specs.declared.card.Card.{Card}
 use Rattle.sealers.specs.Sealing.{spent}
 use Rattle.clients.specs.declared.line.Line.{Line}

@@ -1,13 +1,12 @@
 -- Where in a run each operation of the log began and ended.
 -- By the events of the calls, along the positions of the run.
-use Rattle.std.proofs.Common.{◌≡◌, ℕ, zero, suc, ◌+◌, ◌<◌, ◌≤◌, true, not, ◌&&◌, eqb, leb, ◌⊎◌, length, is_some, Some, None, Option, sym, refl, ap, ◌∙◌, subst, inl, inr, add-one, arith, eq-eqb, eqb-true, le-leb, leb-true}
+use Rattle.std.proofs.Common.{◌≡◌, ℕ, zero, suc, ◌+◌, ◌<◌, ◌≤◌, true, not, ◌⊎◌, length, is_some, Some, None, Option, sym, refl, ap, ◌∙◌, subst, inl, inr, add-one, arith, eq-eqb, le-leb}
 use Rattle.std.proofs.lemmas.Bool.{not-false}
 use native.Mathlib.Decide.{ℕ_discrete, dec_lt}
 use borrow.Author.Tests.{clash}
 use Rattle.kinds.specs.declared.word.Word.{Word}
 use Rattle.wire.specs.declared.pair.Pair.{Pair}
 use Rattle.clients.specs.declared.line.Stage.TheVariants.{Over}
-use Rattle.clients.specs.Lines.{is_idle}
 use Rattle.model.specs.Halls.{Hall, World, Kind, seat_of, operation_of, has_its_tables, end_of}
 use Rattle.model.specs.Answers.{slip, Outcome}
 use Rattle.model.specs.Beginning.{new_operation, word_or_none}

@@ -1,6 +1,6 @@
 -- Which way a chain of tests went, told from what came of it.
 -- Nothing is assumed.
-use Rattle.std.proofs.Common.{◌≡◌, ℕ, Bool, true, false, cond, ◌&&◌, Some, None, Ok, Err, Option, Result, sym, refl, arith}
+use Rattle.std.proofs.Common.{◌≡◌, Bool, true, false, cond, ◌&&◌, Some, None, Ok, Err, Option, Result, sym, refl}
 
 -- one of the two ways of a test
 pub way : {X P : Type 0} (b : Bool) {x y r : X} → cond b x y ≡ r → (b ≡ true → x ≡ r → P) → (b ≡ false → y ≡ r → P) → P
