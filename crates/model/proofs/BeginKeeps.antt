@@ -24,7 +24,8 @@ use Rattle.model.specs.Halls.{World, no_operation, seat_of, operation_of, with_p
 use Rattle.model.specs.Beginning.{new_operation, word_or_none}
 use Rattle.model.proofs.Frames.{history_added, card_stays, quiet_below, later_configuration, later_seat, later_text}
 use Rattle.model.proofs.Invariants.{views, history, stamp_number, StampedWrite, OverBefore, SettledSomewhere, OperationRule, ReadingRule, SeatRule, LogRule, ends, Holds, Later}
-use Rattle.model.proofs.Posts.{before_end, at_end, roll_stays, post_added, places_added, answers_posted, no_answer, operation_later, seats_with}
+use Rattle.model.proofs.Posts.{roll_stays, post_added, answers_posted, no_answer, operation_later}
+use Rattle.model.proofs.Tables.{before_end, at_end, places_added, seats_with}
 
 -- one more operation that has not ended
 pub ends_begun : (ops : List Operation) (op : Operation) → end_of op ≡ 0 → ends (ops ++ (op ∷ [])) ≡ ends ops

@@ -37,7 +37,7 @@ use Rattle.model.proofs.ClientSteps.{client_low, keeps_pair, keeps_ack, keeps_co
 use Rattle.model.proofs.Closing.{found_ends, pair_closes}
 use Rattle.model.proofs.Invariants.{SeatRule, Holds, UnforgedNow}
 use Rattle.model.proofs.Moved.{moved, stepped}
-use Rattle.model.proofs.Posts.{table_after, posting_is}
+use Rattle.model.proofs.Tables.{table_after, posting_is}
 use Rattle.model.proofs.Seats.{with_line}
 use Rattle.model.proofs.StageTests.{writing_cases, same_over, same_stamping, not_to_reading, not_to_over}
 

@@ -21,7 +21,7 @@ use Rattle.model.specs.Delivering.{client_moves, entry_of, has_ended, logged}
 use Rattle.model.proofs.Effects.{Effect, stands, issues, starts, client_steps, replica_steps, calls_off, collects_it, lodges, redeems, meddles, BeginCall, answer_is, hall_is, effect_of}
 use Rattle.model.proofs.ClientEvents.{turned, LineChange, unchanged, stamps_now, ends_now, line_change}
 use Rattle.model.proofs.Invariants.{OwnRule, SeatRule, Holds}
-use Rattle.model.proofs.Posts.{before_end, at_end, set_keeps, seat_same, table_after, posting_is}
+use Rattle.model.proofs.Tables.{before_end, at_end, set_keeps, seat_same, table_after, posting_is}
 use Rattle.model.proofs.StageTests.{opens_busy}
 
 -- nothing began or ended

@@ -34,7 +34,7 @@ use Rattle.model.proofs.ClientSteps.{client_low}
 use Rattle.model.proofs.Invariants.{ends, SeatRule, Holds}
 use Rattle.model.proofs.Effects.{hall_is}
 use Rattle.model.proofs.Parties.{client_party}
-use Rattle.model.proofs.Posts.{moved_line}
+use Rattle.model.proofs.Tables.{moved_line}
 use Rattle.model.proofs.Stages.{in_stage}
 use Rattle.model.proofs.SeatTurns.{Onward, next_line}
 use Rattle.model.proofs.Ways.{some_same, either}

@@ -24,7 +24,8 @@ use Rattle.model.specs.Issuing.{is_right_set, has_too_many_marked}
 use Rattle.model.proofs.Frames.{history_added, later_views, card_stays, quiet_below, seat_stays, later_text}
 use Rattle.model.proofs.Invariants.{views, history, issued_as, Sized, RollRule, KnownText, of_configuration, Holds, Later}
 use Rattle.model.proofs.Opening.{right_below}
-use Rattle.model.proofs.Posts.{before_end, at_end, post_added, log_stays, places_added, answers_posted, no_answer, log_later}
+use Rattle.model.proofs.Posts.{post_added, log_stays, answers_posted, no_answer, log_later}
+use Rattle.model.proofs.Tables.{before_end, at_end, places_added}
 
 -- the world after the source has issued a configuration
 abbrev pub issue_world : World → Source → Configuration → (ℕ → ℕ) → ℕ → (Text → Seal → Bool) → (Text → Seal) → World

@@ -6,6 +6,7 @@ pub mod Stages
 pub mod Frames
 pub mod Seals
 pub mod Opening
+pub mod Tables
 pub mod Posts
 pub mod Cards
 pub mod ReplicaMoves

@@ -12,7 +12,8 @@ use Rattle.model.specs.Halls.{World, no_operation, operation_of, end_of}
 use Rattle.model.proofs.Frames.{later_over}
 use Rattle.model.proofs.Invariants.{stamp_number, StampedWrite, OverBefore, OperationRule, LogRule, Later, ends}
 use Rattle.model.proofs.Moved.{moved, Logging}
-use Rattle.model.proofs.Posts.{operation_later, set_keeps}
+use Rattle.model.proofs.Posts.{operation_later}
+use Rattle.model.proofs.Tables.{set_keeps}
 
 -- how many have ended, with another operation at place k
 pub ends_set : (ops : List Operation) (k : ℕ) (op : Operation) → k < length ops → ends (set ops k op) + min 1 (end_of (get_or ops k no_operation)) ≡ ends ops + min 1 (end_of op)

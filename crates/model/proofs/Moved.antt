@@ -18,7 +18,8 @@ use Rattle.model.specs.Halls.{World, no_entry, no_operation, seat_of, operation_
 use Rattle.model.specs.Delivering.{entry_of}
 use Rattle.model.proofs.Frames.{later_answer, later_seat, QuietReplica, QuietClient, card_stays, quiet_below}
 use Rattle.model.proofs.Invariants.{views, history, StampedWrite, Sized, KnownText, AnswerRule, SeatRule, LogRule, Holds, PostGrows, Later}
-use Rattle.model.proofs.Posts.{at_end, roll_stays, post_stays, post_added, places_added, seats_with}
+use Rattle.model.proofs.Posts.{roll_stays, post_stays, post_added}
+use Rattle.model.proofs.Tables.{at_end, places_added, seats_with}
 
 abbrev pub moved : World → ℕ → Seat → List Operation → ℕ → Table Entry → (ℕ → ℕ) → (Text → Seal → Bool) → World
 moved w c seat ops moment table seals genuine = record w {

@@ -27,7 +27,7 @@ use Rattle.model.proofs.Effects.{Effect, stands, issues, starts, client_steps, r
 use Rattle.model.proofs.Events.{begins_slip, refused_begins_none, slip_same}
 use Rattle.model.proofs.Invariants.{Holds}
 use Rattle.model.proofs.StageTests.{over_shut, idle_shut}
-use Rattle.model.proofs.Posts.{seat_same, seat_other, moved_seats, posting_is}
+use Rattle.model.proofs.Tables.{seat_same, seat_other, moved_seats, posting_is}
 
 -- a line goes on to another: rounds do not fall, and a round that is still open is in the stage that it was in
 -- and has counted all that it had

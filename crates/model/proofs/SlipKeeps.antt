@@ -10,7 +10,8 @@ use Rattle.model.specs.Halls.{World}
 use Rattle.model.specs.Slips.{freed, holding_slip}
 use Rattle.model.proofs.Frames.{seat_stays}
 use Rattle.model.proofs.Invariants.{history, SeatRule, Holds}
-use Rattle.model.proofs.Posts.{aside, later_aside, seat_aside, seats_keep, seats_with}
+use Rattle.model.proofs.Posts.{aside, later_aside, seat_aside, seats_keep}
+use Rattle.model.proofs.Tables.{seats_with}
 
 pub one_seat_keeps : (kind : ℕ) (sealed : List Text) (w : World) (c : ℕ) (seat : Seat) (open_place : ℕ) (given : Text → Seal)
     → Holds kind sealed w → 1 ≤ c → c ≤ w.hall.rules.clients → SeatRule kind w c seat

@@ -23,7 +23,8 @@ use Rattle.model.proofs.ClientKeeps.{client_keeps, sealed_with}
 use Rattle.model.proofs.Effects.{Effect, stands, issues, starts, client_steps, replica_steps, calls_off, collects_it, lodges, redeems, meddles, BeginCall, by_read, by_write, Seated, answer_is, hall_is, effect_of}
 use Rattle.model.proofs.Invariants.{Holds, UnforgedNow}
 use Rattle.model.proofs.IssueKeeps.{issue_keeps}
-use Rattle.model.proofs.Posts.{open_keeps, posting_is, moved_line}
+use Rattle.model.proofs.Posts.{open_keeps}
+use Rattle.model.proofs.Tables.{posting_is, moved_line}
 use Rattle.model.proofs.ReplicaKeeps.{replica_keeps, replica_world}
 use Rattle.model.proofs.ReplicaPosts.{replica_posts}
 use Rattle.model.proofs.SlipKeeps.{one_seat_keeps, freed_rule, lodged_rule}

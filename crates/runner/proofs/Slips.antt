@@ -24,7 +24,7 @@ use Rattle.register.specs.declared.slip.Slip.{Slip}
 use Rattle.register.specs.Worlds.{slip_or}
 use Rattle.model.proofs.Ways.{way, way_in}
 use Rattle.model.proofs.Parties.{client_in}
-use Rattle.model.proofs.Posts.{places_added}
+use Rattle.model.proofs.Tables.{places_added}
 use Rattle.runner.specs.Slips.{HasSlip, holds_its_slip, is_at}
 
 -- the meanings of a store and a sealer where they do not matter
