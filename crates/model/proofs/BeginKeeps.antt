@@ -1,9 +1,7 @@
 -- A begin keeps every rule: READ is posted in the next round, and the operation is logged with the next moment.
 -- The client is idle, log and post have room, and a write has a seal left.
 use Rattle.std.proofs.Common.{◌≡◌, ℕ, ◌+◌, ◌-◌, ◌<◌, ◌≤◌, min, true, false, List, [], ◌∷◌, ◌++◌, length, is_some, Option, sym, refl, ap, ◌∙◌, subst, arith, length-append, length-set}
-use native.Mathlib.Decide.{dec_lt}
 use borrow.Author.Tests.{clash}
-use Rattle.std.proofs.lemmas.List.{get_or_past}
 use Rattle.kinds.specs.declared.word.Word.{Word}
 use Rattle.wire.specs.declared.entry.Entry.{Entry}
 use Rattle.wire.specs.declared.pair.Seal.{Seal}
@@ -25,7 +23,7 @@ use Rattle.model.specs.Beginning.{new_operation, word_or_none}
 use Rattle.model.proofs.Frames.{history_added, card_stays, quiet_below, later_configuration, later_seat, later_text}
 use Rattle.model.proofs.Invariants.{views, history, stamp_number, StampedWrite, OverBefore, SettledSomewhere, OperationRule, ReadingRule, SeatRule, LogRule, ends, Holds, Later}
 use Rattle.model.proofs.Posts.{roll_stays, post_added, answers_posted, no_answer, operation_later}
-use Rattle.model.proofs.Tables.{before_end, at_end, places_added, seats_with}
+use Rattle.model.proofs.Tables.{before_end, at_end, places_added, seats_with, each_with, ended_logged}
 
 -- one more operation that has not ended
 pub ends_begun : (ops : List Operation) (op : Operation) → end_of op ≡ 0 → ends (ops ++ (op ∷ [])) ≡ ends ops
@@ -64,38 +62,18 @@ module _ (kind : ℕ) (sealed : List Text) (w : World) (holds : Holds kind seale
   new_op : operation_of (begin_world w client word open_place given).hall (length w.hall.log.list) ≡ new_operation client.number word (w.hall.moment + 1)
   new_op = at_end w.hall.log.list (new_operation client.number word (w.hall.moment + 1)) no_operation
 
-  data Place (k : ℕ) : Type 0 where
-    old_one : k < length w.hall.log.list → Place k
-    new_one : length w.hall.log.list ≡ k → Place k
-    none_there : length w.hall.log.list < k → Place k
-
-  place_of : (k : ℕ) → Place k
-  place_of k = by_order (dec_lt k (length w.hall.log.list)) (dec_lt (length w.hall.log.list) k)
-    where
-      by_order : Dec (k < length w.hall.log.list) → Dec (length w.hall.log.list < k) → Place k
-      by_order (yes lt) d = old_one lt
-      by_order (no nl) (yes gt) = none_there gt
-      by_order (no nl) (no ng) = new_one (omega arith)
-
-  past_op : (k : ℕ) → length w.hall.log.list < k → operation_of (begin_world w client word open_place given).hall k ≡ no_operation
-  past_op k gt = get_or_past (w.hall.log.list ++ (new_operation client.number word (w.hall.moment + 1) ∷ [])) k no_operation (simp length-append (omega arith))
+  -- what holds of each old operation, and of the new one
+  each_op : (P : ℕ → Operation → Type 0) → ((k : ℕ) → k < length w.hall.log.list → P k (operation_of w.hall k)) → P (length w.hall.log.list) (new_operation client.number word (w.hall.moment + 1))
+      → (k : ℕ) → k < length (begin_world w client word open_place given).hall.log.list → P k (operation_of (begin_world w client word open_place given).hall k)
+  each_op P = each_with P w.hall.log.list (new_operation client.number word (w.hall.moment + 1)) no_operation
 
   -- what has ended or is stamped is old
   ended_old : (k : ℕ) → 0 < end_of (operation_of (begin_world w client word open_place given).hall k) → k < length w.hall.log.list
-  ended_old k o = by_place (place_of k)
-    where
-      by_place : Place k → k < length w.hall.log.list
-      by_place (old_one lt) = lt
-      by_place (new_one e) = absurd (omega (arith, o, ap (λ z. end_of z) (subst (λ m. operation_of (begin_world w client word open_place given).hall m ≡ new_operation client.number word (w.hall.moment + 1)) e new_op)))
-      by_place (none_there gt) = absurd (omega (arith, o, ap (λ z. end_of z) (past_op k gt)))
+  ended_old k o = each_op (λ j y. 0 < end_of y → j < length w.hall.log.list) (λ j lt z. lt) (λ z. absurd (omega arith)) k (ended_logged (begin_world w client word open_place given).hall k o) o
 
   stamped_old : (k : ℕ) → StampedWrite (begin_world w client word open_place given).hall k → StampedWrite w.hall k
-  stamped_old k s = by_place (place_of k)
-    where
-      by_place : Place k → StampedWrite w.hall k
-      by_place (old_one lt) = record { logged = lt; writes = sym (ap (λ z. z.writes) (old_op k lt)) ∙ s.writes; stamped = rw (old_op k lt) at s.stamped }
-      by_place (new_one e) = absurd (omega (arith, s.stamped, ap (λ z. z.pair.stamp.count) (subst (λ m. operation_of (begin_world w client word open_place given).hall m ≡ new_operation client.number word (w.hall.moment + 1)) e new_op)))
-      by_place (none_there gt) = absurd (omega (arith, s.stamped, ap (λ z. z.pair.stamp.count) (past_op k gt)))
+  stamped_old k s = each_op (λ j y. y.writes ≡ true → 0 < y.pair.stamp.count → StampedWrite w.hall j)
+      (λ j lt writes stamped. record { logged = lt; writes = writes; stamped = stamped }) (λ writes stamped. absurd (omega arith)) k s.logged s.writes s.stamped
 
   later_begun : Later w (begin_world w client word open_place given)
   unfolding post_added read
@@ -109,26 +87,21 @@ module _ (kind : ℕ) (sealed : List Text) (w : World) (holds : Holds kind seale
       writes = λ k lt. ap (λ z. z.writes) (old_op k lt);
       began = λ k lt. ap (λ z. z.began) (old_op k lt);
       stamp = λ k s. ap (λ z. z.pair) (old_op k s.logged);
-      ended = λ k o. old_op k (was_old k o);
+      ended = λ k o. old_op k (ended_logged w.hall k o);
       ending = λ k z o. absurd (omega (arith, z, o, ap (λ p. end_of p) (old_op k (ended_old k o))));
     };
     genuine = λ t s g. g;
   }
-    where
-      was_old : (k : ℕ) → 0 < end_of (operation_of w.hall k) → k < length w.hall.log.list
-      was_old k o = by_place (place_of k)
-        where
-          by_place : Place k → k < length w.hall.log.list
-          by_place (old_one lt) = lt
-          by_place (new_one e) = absurd (omega (arith, o, ap (λ z. end_of z) (get_or_past w.hall.log.list k no_operation (omega arith))))
-          by_place (none_there gt) = absurd (omega (arith, o, ap (λ z. end_of z) (get_or_past w.hall.log.list k no_operation (omega arith))))
 
   log_begun : LogRule (begin_world w client word open_place given)
   unfolding later_begun history
   log_begun = record {
     moments = moments;
-    each = λ k lt. each k lt (place_of k);
-    rising = λ j k lt lk. rising j k lt lk (place_of k);
+    each = each_op (λ k y. OperationRule (begin_world w client word open_place given) k)
+        (λ k o. operation_later w (begin_world w client word open_place given) later_begun k o later_begun.moment (old_op k o) (holds.log.each k o)) new_rule;
+    rising = λ j k lt lk. each_op (λ m y. j < m → (operation_of (begin_world w client word open_place given).hall j).began < y.began)
+        (λ m o less. let lj : j < length w.hall.log.list = omega arith in rw (old_op j lj) (holds.log.rising j m less o))
+        (λ less. rw (old_op j less) (omega (arith, (holds.log.each j less).began_by))) k lk lt;
     own_stamp = λ j k sj sk e. holds.log.own_stamp j k (stamped_old j sj) (stamped_old k sk) (sym (number j (stamped_old j sj).logged) ∙ e ∙ number k (stamped_old k sk).logged);
     falls_not = λ j k o lk y z. rw (number j (ended_old j o.over), number k (ended_old k z))
         (holds.log.falls_not j k (over j k (ended_old k z) o) (ended_old k z) (sym (ap (λ p. p.writes) (old_op k (ended_old k z))) ∙ y) (rw (old_op k (ended_old k z)) at z));
@@ -158,19 +131,6 @@ module _ (kind : ℕ) (sealed : List Text) (w : World) (holds : Holds kind seale
         stamped = rw new_op (λ y o. absurd (omega arith));
         low = rw new_op (λ y. omega arith);
       }
-
-      each : (k : ℕ) → k < length (begin_world w client word open_place given).hall.log.list → Place k → OperationRule (begin_world w client word open_place given) k
-      each k lt (old_one o) = operation_later w (begin_world w client word open_place given) later_begun k o later_begun.moment (old_op k o) (holds.log.each k o)
-      each k lt (new_one e) = subst (λ m. OperationRule (begin_world w client word open_place given) m) e new_rule
-      each k lt (none_there gt) = absurd (omega (arith, gt, simp length-append at lt))
-
-      rising : (j k : ℕ) → j < k → k < length (begin_world w client word open_place given).hall.log.list → Place k
-          → (operation_of (begin_world w client word open_place given).hall j).began < (operation_of (begin_world w client word open_place given).hall k).began
-      rising j k lt lk (old_one o) = rw (old_op j (omega arith), old_op k o) (holds.log.rising j k lt o)
-      rising j k lt lk (new_one e) =
-          subst (λ m. (operation_of (begin_world w client word open_place given).hall j).began < (operation_of (begin_world w client word open_place given).hall m).began) e
-          (let lj : j < length w.hall.log.list = omega arith in rw (new_op, old_op j lj) (omega (arith, (holds.log.each j lj).began_by)))
-      rising j k lt lk (none_there gt) = absurd (omega (arith, gt, simp length-append at lk))
 
   -- the rounds of this client that are posted
   read_rounds : {k e : ℕ} → Posted (ReadEntry client.number k e) (read ∷ history w.hall) → k ≤ (seat_of w.hall client.number).line.round + 1

@@ -39,6 +39,7 @@ use Rattle.model.proofs.Invariants.{views, issued_as, history, stamp_number, Kno
 use Rattle.model.proofs.Invariants.KnownPair.{the_opening, a_write}
 use Rattle.model.proofs.Invariants.KnownText.{of_configuration, of_write}
 use Rattle.model.proofs.StageTests.{opens_busy}
+use Rattle.model.proofs.Tables.{ended_logged}
 
 -- the entry that is posted stands at the head of the history
 pub history_added : (h : Hall) (x : Entry) → history (with_post h (added h.post x)) ≡ x ∷ history h
@@ -122,11 +123,10 @@ later_genuine {w} {w'} kind l p g =
 -- what ended before an old operation began had ended before already
 pub later_over : {w w' : World} → Later w w' → (k j : ℕ) → j < length w.hall.log.list → (operation_of w.hall j).began ≤ w.hall.moment → OverBefore w'.hall k j → OverBefore w.hall k j
 later_over {w} {w'} l k j lt by over =
-    let log = w.hall.log.list in
     let ended : 0 < end_of (operation_of w.hall k) =
     ⊎_elim (λ before. before) (λ unended. absurd (omega (arith, l.ending k (omega arith) over.over, over.before, l.began j lt))) (cases_lt 0 (end_of (operation_of w.hall k))) in
     record {
-      logged = ⊎_elim (λ old. old) (λ new. absurd (omega (arith, ended, ap (λ op. end_of op) (get_or_past log k no_operation new)))) (cases_lt k (length log));
+      logged = ended_logged w.hall k ended;
       over = ended;
       before = omega (arith, over.before, ap (λ op. end_of op) (l.ended k ended), l.began j lt);
     }

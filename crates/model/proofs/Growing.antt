@@ -1,13 +1,13 @@
 -- What was said of an operation in the log stands from then on.
 -- From the events of calls, over as many calls as there are.
 use Rattle.std.proofs.Common.{◌≡◌, ℕ, ◌<◌, ◌≤◌, true, length, sym, refl, ap, ◌∙◌, subst, arith, zero, suc, ◌+◌, add-one}
-use native.Mathlib.Decide.{ℕ_discrete, dec_lt}
+use native.Mathlib.Decide.{ℕ_discrete}
 use Rattle.halls.specs.declared.operation.Operation.{Operation}
-use Rattle.model.specs.Halls.{Hall, Kind, no_operation, operation_of, end_of}
+use Rattle.model.specs.Halls.{Hall, Kind, operation_of, end_of}
 use Rattle.model.specs.Answers.{Answer}
 use Rattle.model.specs.Calls.{Call}
+use Rattle.model.proofs.Tables.{ended_logged}
 use Rattle.model.proofs.Events.{Event, nothing, begins, ends}
-use Rattle.std.proofs.lemmas.List.{get_or_past}
 
 -- what holds of each position and the next one holds of each and each later one
 pub along : (R : ℕ → ℕ → Type 0) (end : ℕ) → ((i : ℕ) → R i i) → ((i j : ℕ) → R i j → j < end → R i (j + 1)) → (i j : ℕ) → i ≤ j → j ≤ end → R i j
@@ -33,14 +33,6 @@ pub record Grows (h h' : Hall) : Type 0 where
   pub word : (k : ℕ) → k < length h.log.list → (operation_of h k).writes ≡ true → (operation_of h' k).pair.word ≡ (operation_of h k).pair.word
   pub ended : (k : ℕ) → 0 < end_of (operation_of h k) → end_of (operation_of h' k) ≡ end_of (operation_of h k)
   pub pair : (k : ℕ) → 0 < end_of (operation_of h k) → (operation_of h' k).pair ≡ (operation_of h k).pair
-
--- what has ended is in the log
-pub ended_logged : (h : Hall) (k : ℕ) → 0 < end_of (operation_of h k) → k < length h.log.list
-ended_logged h k o = by_place (dec_lt k (length h.log.list))
-  where
-    by_place : Dec (k < length h.log.list) → k < length h.log.list
-    by_place (yes lt) = lt
-    by_place (no past) = absurd (omega (arith, o, ap (λ z. end_of z) (get_or_past h.log.list k no_operation (omega arith))))
 
 pub grows_same : (h : Hall) → Grows h h
 grows_same h = record {

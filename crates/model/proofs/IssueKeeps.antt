@@ -4,7 +4,6 @@ use Rattle.std.proofs.Common.{◌≡◌, ℕ, ◌+◌, ◌*◌, ◌^◌, ◌<◌
 use Rattle.std.proofs.lemmas.Bool.{not-false, and_parts}
 use mathlib.Core.List.Memᴰ
 use mathlib.Core.List.{Memᴰ}
-use native.Mathlib.Decide.{dec_lt}
 use lib.Bits.{bit_and}
 use lib.Count.{ones}
 use Rattle.wire.specs.declared.pair.Configuration.{Configuration}
@@ -13,7 +12,6 @@ use Rattle.wire.specs.declared.text.Text.{Text}
 use Rattle.wire.specs.Texts.{configuration_text}
 use Rattle.rules.specs.Posts.{config_entry}
 use Rattle.source.specs.declared.state.Source.{Source}
-use Rattle.quorums.specs.Quorums.{Sound}
 use Rattle.histories.specs.Places.{done, next}
 use Rattle.histories.specs.Histories.{Good}
 use Rattle.histories.proofs.Extension.{good_extends}
@@ -25,7 +23,7 @@ use Rattle.model.proofs.Frames.{history_added, later_views, card_stays, quiet_be
 use Rattle.model.proofs.Invariants.{views, history, issued_as, Sized, RollRule, KnownText, of_configuration, Holds, Later}
 use Rattle.model.proofs.Opening.{right_below}
 use Rattle.model.proofs.Posts.{post_added, log_stays, answers_posted, no_answer, log_later}
-use Rattle.model.proofs.Tables.{before_end, at_end, places_added}
+use Rattle.model.proofs.Tables.{before_end, at_end, places_added, each_with}
 
 -- the world after the source has issued a configuration
 abbrev pub issue_world : World → Source → Configuration → (ℕ → ℕ) → ℕ → (Text → Seal → Bool) → (Text → Seal) → World
@@ -44,9 +42,6 @@ module _ (kind : ℕ) (sealed : List Text) (w : World) (holds : Holds kind seale
     (roll_room : is_full w.hall.roll ≡ false) (post_room : is_full w.hall.post ≡ false)
     (monotone : (t : Text) (s : Seal) → w.genuine t s ≡ true → genuine t s ≡ true)
     (kept : (p : ℕ) → 1 ≤ p → seals p ≡ w.hall.seals p) where
-  world : World
-  world = issue_world w source c seals open_place genuine given
-
   later_issued : Later w (issue_world w source c seals open_place genuine given)
   unfolding post_added
   later_issued = record {
@@ -56,50 +51,23 @@ module _ (kind : ℕ) (sealed : List Text) (w : World) (holds : Holds kind seale
     genuine = monotone;
   }
 
-  by_epoch : (e : ℕ) → e < length (w.hall.roll.list ++ (c ∷ [])) → (e < length w.hall.roll.list) ⊎ (length w.hall.roll.list ≡ e)
-  by_epoch e lt = told (dec_lt e (length w.hall.roll.list))
-    where
-      told : Dec (e < length w.hall.roll.list) → (e < length w.hall.roll.list) ⊎ (length w.hall.roll.list ≡ e)
-      told (yes old) = inl old
-      told (no new) = inr (omega (arith, new, simp length-append at lt))
-
-  new_epoch : c.epoch ≡ length w.hall.roll.list
-  new_epoch = epoch ∙ holds.roll.source
-
-  sound_issued : Sound (views (issue_world w source c seals open_place genuine given).hall)
-  sound_issued = record { sized = λ e lt. sized e (by_epoch e lt); few = λ e lt. marked e (by_epoch e lt) }
-    where
-      sized : (e : ℕ) → (e < length w.hall.roll.list) ⊎ (length w.hall.roll.list ≡ e)
-          → ones (get_or (w.hall.roll.list ++ (c ∷ [])) e no_configuration).set.0 ≡ 3 * w.hall.rules.faults + 1
-      sized e (inl old) = subst (λ z. ones z.set.0 ≡ 3 * w.hall.rules.faults + 1) (sym (before_end w.hall.roll.list c no_configuration e old)) (holds.roll.sound.sized e old)
-      sized e (inr new) = subst (λ m. ones (get_or (w.hall.roll.list ++ (c ∷ [])) m no_configuration).set.0 ≡ 3 * w.hall.rules.faults + 1) new
-          (subst (λ z. ones z.set.0 ≡ 3 * w.hall.rules.faults + 1) (sym (at_end w.hall.roll.list c no_configuration)) (eqb-true _ _ (and_parts _ _ right).0))
-
-      marked : (e : ℕ) → (e < length w.hall.roll.list) ⊎ (length w.hall.roll.list ≡ e)
-          → ones (bit_and (get_or (w.hall.roll.list ++ (c ∷ [])) e no_configuration).set.0 w.hall.marked) ≤ w.hall.rules.faults
-      marked e (inl old) = subst (λ z. ones (bit_and z.set.0 w.hall.marked) ≤ w.hall.rules.faults) (sym (before_end w.hall.roll.list c no_configuration e old)) (holds.roll.sound.few e old)
-      marked e (inr new) = subst (λ m. ones (bit_and (get_or (w.hall.roll.list ++ (c ∷ [])) m no_configuration).set.0 w.hall.marked) ≤ w.hall.rules.faults) new
-          (subst (λ z. ones (bit_and z.set.0 w.hall.marked) ≤ w.hall.rules.faults) (sym (at_end w.hall.roll.list c no_configuration)) (leb-true _ _ (not-false _ few)))
+  -- what holds of each configuration so far, and of the new one
+  each_issued : (P : ℕ → Configuration → Type 0) → ((e : ℕ) → e < length w.hall.roll.list → P e (issued_as w.hall e)) → P (length w.hall.roll.list) c
+      → (e : ℕ) → e < length (w.hall.roll.list ++ (c ∷ [])) → P e (get_or (w.hall.roll.list ++ (c ∷ [])) e no_configuration)
+  each_issued P = each_with P w.hall.roll.list c no_configuration
 
   roll_issued : RollRule w.hall.rules w.hall.marked (w.hall.roll.list ++ (c ∷ [])) source.newest
   roll_issued = record {
-    sound = sound_issued;
+    sound = record {
+      sized = each_issued (λ e z. ones z.set.0 ≡ 3 * w.hall.rules.faults + 1) holds.roll.sound.sized (eqb-true _ _ (and_parts _ _ right).0);
+      few = each_issued (λ e z. ones (bit_and z.set.0 w.hall.marked) ≤ w.hall.rules.faults) holds.roll.sound.few (leb-true _ _ (not-false _ few));
+    };
     some = simp length-append (omega arith);
     first = ap (λ z. z.set.0) (before_end w.hall.roll.list c no_configuration 0 holds.roll.some) ∙ holds.roll.first;
-    epochs = λ e lt. epochs e (by_epoch e lt);
+    epochs = each_issued (λ e z. z.epoch ≡ e) holds.roll.epochs (epoch ∙ holds.roll.source);
     source = simp length-append (omega (arith, newest, holds.roll.source));
-    inside = λ e lt. inside e (by_epoch e lt);
+    inside = each_issued (λ e z. z.set.0 < 2 ^ w.hall.rules.replicas) holds.roll.inside (right_below w.hall.rules c.set.0 right);
   }
-    where
-      epochs : (e : ℕ) → (e < length w.hall.roll.list) ⊎ (length w.hall.roll.list ≡ e) → (get_or (w.hall.roll.list ++ (c ∷ [])) e no_configuration).epoch ≡ e
-      epochs e (inl old) = ap (λ z. z.epoch) (before_end w.hall.roll.list c no_configuration e old) ∙ holds.roll.epochs e old
-      epochs e (inr new) = subst (λ m. (get_or (w.hall.roll.list ++ (c ∷ [])) m no_configuration).epoch ≡ m) new
-          (ap (λ z. z.epoch) (at_end w.hall.roll.list c no_configuration) ∙ new_epoch)
-
-      inside : (e : ℕ) → (e < length w.hall.roll.list) ⊎ (length w.hall.roll.list ≡ e) → (get_or (w.hall.roll.list ++ (c ∷ [])) e no_configuration).set.0 < 2 ^ w.hall.rules.replicas
-      inside e (inl old) = subst (λ z. z.set.0 < 2 ^ w.hall.rules.replicas) (sym (before_end w.hall.roll.list c no_configuration e old)) (holds.roll.inside e old)
-      inside e (inr new) = subst (λ m. (get_or (w.hall.roll.list ++ (c ∷ [])) m no_configuration).set.0 < 2 ^ w.hall.rules.replicas) new
-          (subst (λ z. z.set.0 < 2 ^ w.hall.rules.replicas) (sym (at_end w.hall.roll.list c no_configuration)) (right_below w.hall.rules c.set.0 right))
 
   sized_issued : Sized (issue_world w source c seals open_place genuine given).hall
   sized_issued = let s = holds.sized in record {

@@ -16,9 +16,10 @@ use Rattle.model.specs.Runs.{Lawful, Opened, Run, Unforged}
 use Rattle.model.proofs.Effects.{BeginCall, by_read, by_write}
 use Rattle.model.proofs.Events.{EndedLog, begins_slip}
 use Rattle.model.proofs.Images.{split_from, map_member, comes_from, below, IsBelow, below_only, below_all, below_distinct, split_at, split_before}
-use Rattle.model.proofs.Growing.{Grows, ended_logged}
+use Rattle.model.proofs.Growing.{Grows}
 use Rattle.model.proofs.Invariants.{stamp_number, StampedWrite, KnownPair, the_opening, a_write as of_a_write, OverBefore, Holds}
 use Rattle.model.proofs.RunKeeps.{sealed_at, holds_at}
+use Rattle.model.proofs.Tables.{ended_logged}
 use Rattle.model.proofs.Trace.{slips_there, grows, StartOf, started, operation_started, Told, told, found_start, found_end, opening_stays, end_client, ended_valued, ended_told, end_seen}
 use Rattle.wire.specs.declared.text.Text.{Text}
 use Rattle.model.proofs.Ways.{some_same, not_some}

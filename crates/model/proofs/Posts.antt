@@ -1,7 +1,7 @@
 -- Posting an entry, and putting a card in a store: what each asks for so that all rules still hold.
 -- The lemmas build the world that comes of it.
 use Rattle.std.proofs.Common.{◌≡◌, ℕ, ◌-◌, ◌<◌, ◌≤◌, false, cond, List, [], ◌∷◌, ◌++◌, length, get_or, Some, Option, sym, refl, ap, ◌∙◌, subst, arith, length-append, eq-eqb, ne_eqb}
-use native.Mathlib.Decide.{dec_lt, ℕ_discrete}
+use native.Mathlib.Decide.{ℕ_discrete}
 use Rattle.wire.specs.declared.entry.Entry.{Entry}
 use Rattle.wire.specs.declared.pair.Seal.{Seal}
 use Rattle.wire.specs.declared.text.Text.{Text}
@@ -18,7 +18,7 @@ use Rattle.model.specs.Halls.{Hall, World, no_entry, no_operation, no_seat, seat
 use Rattle.model.specs.Delivering.{entry_of}
 use Rattle.model.proofs.Frames.{card_kept, history_added, later_past, later_pair, later_text, later_views, later_answer, seat_stays, QuietClient}
 use Rattle.model.proofs.Invariants.{views, history, stamp_number, StampedWrite, OverBefore, Sized, CardRule, CardOf, AnswerRule, OperationRule, SettledSomewhere, SeatRule, LogRule, Holds, RollGrows, PostGrows, LogGrows, Later}
-use Rattle.model.proofs.Tables.{before_end, at_end, places_added}
+use Rattle.model.proofs.Tables.{before_end, places_added, each_with}
 
 -- the world with one more entry in its post
 abbrev pub posted_in : World → Entry → World
@@ -126,15 +126,9 @@ sized_posted w x room s = record {
 pub answers_posted : (kind : ℕ) (w w' : World) (x : Entry) → Later w w' → w'.hall.post.list ≡ w.hall.post.list ++ (x ∷ []) → AnswerRule kind w' x
     → ((n : ℕ) → n < length w.hall.post.list → AnswerRule kind w (entry_of w.hall n))
     → (n : ℕ) → n < length w'.hall.post.list → AnswerRule kind w' (entry_of w'.hall n)
-answers_posted kind w w' x l posts answer old n lt = by_place (dec_lt n (length w.hall.post.list))
-  where
-    by_place : Dec (n < length w.hall.post.list) → AnswerRule kind w' (entry_of w'.hall n)
-    by_place (yes before) = subst (λ y. AnswerRule kind w' y) (sym (l.same_entries n before)) (later_answer kind l (entry_of w.hall n) (old n before))
-    by_place (no behind) = subst (λ y. AnswerRule kind w' y)
-        (sym (at_end w.hall.post.list x no_entry) ∙ ap (λ m. get_or (w.hall.post.list ++ (x ∷ [])) m no_entry) last ∙ sym (ap (λ p. get_or p n no_entry) posts)) answer
-      where
-        last : length w.hall.post.list ≡ n
-        last = omega (arith, behind, lt, simp length-append at (ap length posts))
+answers_posted kind w w' x l posts answer old =
+    subst (λ list. (n : ℕ) → n < length list → AnswerRule kind w' (get_or list n no_entry)) (sym posts)
+    (each_with (λ n y. AnswerRule kind w' y) w.hall.post.list x no_entry (λ n before. later_answer kind l (entry_of w.hall n) (old n before)) answer)
 
 -- an entry that is neither PAIR nor ACK
 pub no_answer : (kind : ℕ) (w : World) (x : Entry) → (x.kind ≡ 4 → ⊥) → (x.kind ≡ 5 → ⊥) → AnswerRule kind w x

@@ -44,7 +44,7 @@ use Rattle.model.proofs.Invariants.{views, history, issued_as, stamp_number, Sea
 use Rattle.model.proofs.Parties.{client_numbered, replica_numbered}
 use Rattle.model.proofs.RunKeeps.{sealed_at, holds_at, unforged_at}
 use Rattle.model.proofs.SeatTurns.{begun_seat, Onward, onward_same, onward_trans, SeatTurn, seat_turn, turn_onward, Staying, stays_open, is_ended, is_called_off, turn_staying}
-use Rattle.model.proofs.Trace.{slip_answered, slips_there, grows, collects_over, ended_valued}
+use Rattle.model.proofs.Trace.{slip_answered, slips_there, grows, collects_over, ended_valued, opening_stays}
 use Rattle.model.proofs.Stages.{in_stage}
 use Rattle.model.proofs.Ways.{not_some}
 
@@ -55,9 +55,6 @@ module _ {V : Type 0} (kind : Kind V) (v : V) (start : World) (lawful : Lawful k
   holds : (i : ℕ) (le : i ≤ run.calls) → Holds kind.number (sealed_at kind v start lawful opened run unforged i) (run.world i)
   holds i le = holds_at kind v start lawful opened run unforged i le
 
-  clients_same : (i : ℕ) → i ≤ run.calls → (hall_at i).rules ≡ start.hall.rules
-  clients_same i le = (grows kind v start lawful opened run unforged 0 i (omega arith) le).rules ∙ ap (λ w. w.hall.rules) run.opens
-
   marked_same : (i : ℕ) → i ≤ run.calls → (hall_at i).marked ≡ start.hall.marked
   marked_same i le = (grows kind v start lawful opened run unforged 0 i (omega arith) le).marked ∙ ap (λ w. w.hall.marked) run.opens
 
@@ -67,7 +64,7 @@ module _ {V : Type 0} (kind : Kind V) (v : V) (start : World) (lawful : Lawful k
   turn_at : (j c : ℕ) → j < run.calls → 1 ≤ c → c ≤ start.hall.rules.clients → SeatTurn kind (run.world j) (run.call j) (run.answer j) (hall_at (j + 1)) c
   turn_at j c lt low high =
       let le : j ≤ run.calls = omega arith in
-      seat_turn kind _ (run.world j) (holds j le) (run.call j) (run.answer j) (hall_at (j + 1)) c low (subst (λ r. c ≤ r.clients) (sym (clients_same j le)) high) (did j lt)
+      seat_turn kind _ (run.world j) (holds j le) (run.call j) (run.answer j) (hall_at (j + 1)) c low (subst (λ r. c ≤ r.clients) (sym (opening_stays kind v start lawful opened run unforged j le)) high) (did j lt)
 
   -- a client's line goes on from each position to each later one
   goes_on : (c : ℕ) → 1 ≤ c → c ≤ start.hall.rules.clients → (i j : ℕ) → i ≤ j → j ≤ run.calls → Onward (seat_of (hall_at i) c).line (seat_of (hall_at j) c).line
@@ -100,7 +97,7 @@ module _ {V : Type 0} (kind : Kind V) (v : V) (start : World) (lawful : Lawful k
           by_staying (is_called_off off answer) = absurd (u.not_called_off j (omega arith) off answer)
           by_staying (is_ended over its) =
               let lc : j + 1 ≤ run.calls = omega arith in
-              let high_there = subst (λ r. c ≤ r.clients) (sym (clients_same (j + 1) lc)) s.high in
+              let high_there = subst (λ r. c ≤ r.clients) (sym (opening_stays kind v start lawful opened run unforged (j + 1) lc)) s.high in
               let mine = (holds (j + 1) lc).seats c s.low high_there in
               let o = subst (λ m. 0 < end_of (operation_of (hall_at (j + 1)) m)) its (in_stage mine over).ended in
               let value = ended_valued kind v start lawful opened run unforged (j + 1) u.place lc o in
@@ -112,7 +109,7 @@ module _ {V : Type 0} (kind : Kind V) (v : V) (start : World) (lawful : Lawful k
           (subst (λ m. run.answer m ≡ slip c u.place) here (slip_answered run u.operation)) (did j within) in
           record {
             low = b.low;
-            high = subst (λ r. c ≤ r.clients) (clients_same j (omega arith)) b.high;
+            high = subst (λ r. c ≤ r.clients) (opening_stays kind v start lawful opened run unforged j (omega arith)) b.high;
             opens = ap is_open b.stage;
             operation = b.operation;
           }
@@ -142,7 +139,7 @@ module _ {V : Type 0} (kind : Kind V) (v : V) (start : World) (lawful : Lawful k
     open_seat = open_until i c le o.under_way i o.under_way.began (omega arith)
 
     high_here : c ≤ (hall_at i).rules.clients
-    high_here = subst (λ r. c ≤ r.clients) (sym (clients_same i le)) open_seat.high
+    high_here = subst (λ r. c ≤ r.clients) (sym (opening_stays kind v start lawful opened run unforged i le)) open_seat.high
 
     small : c < 100
     small = omega (arith, open_seat.high, opened.clients)
@@ -204,7 +201,7 @@ module _ {V : Type 0} (kind : Kind V) (v : V) (start : World) (lawful : Lawful k
 
     -- fewer than 2f+1 are counted
     few_counted : ones (seat_of (hall_at i) c).line.counted.0 < 2 * start.hall.rules.faults + 1
-    few_counted = omega (arith, (mine.opens open_seat.opens).few, ap (λ r. r.faults) (clients_same i le))
+    few_counted = omega (arith, (mine.opens open_seat.opens).few, ap (λ r. r.faults) (opening_stays kind v start lawful opened run unforged i le))
 
     line_round : r ≡ (seat_of (hall_at i) c).line.round
     line_round = by_line open_line

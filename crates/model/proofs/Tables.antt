@@ -12,7 +12,7 @@ use Rattle.clients.specs.declared.line.Line.{Line}
 use Rattle.halls.specs.declared.operation.Operation.{Operation}
 use Rattle.halls.specs.declared.seat.Seat.{Seat}
 use Rattle.model.specs.Tables.{Table, is_empty, is_full, tail, added, places}
-use Rattle.model.specs.Halls.{Hall, World, no_operation, no_seat, seat_of, with_post}
+use Rattle.model.specs.Halls.{Hall, World, no_operation, no_seat, seat_of, with_post, operation_of, end_of}
 use Rattle.model.specs.Delivering.{posting, client_moves}
 use Rattle.model.proofs.Invariants.{Sized, SeatRule}
 
@@ -22,6 +22,18 @@ before_end xs x d n lt = get_or-append xs (x ∷ []) d n lt
 
 pub at_end : {T : Type 0} (xs : List T) (x d : T) → get_or (xs ++ (x ∷ [])) (length xs) d ≡ x
 at_end xs x d = get_or-append_seam xs x [] d
+
+-- what holds of each element, and of the one behind them, holds of all
+pub each_with : {T : Type 0} (P : ℕ → T → Type 0) (xs : List T) (x d : T) → ((n : ℕ) → n < length xs → P n (get_or xs n d)) → P (length xs) x
+    → (n : ℕ) → n < length (xs ++ (x ∷ [])) → P n (get_or (xs ++ (x ∷ [])) n d)
+each_with {T} P xs x d old new n lt = by_place (dec_lt n (length xs))
+  where
+    by_place : Dec (n < length xs) → P n (get_or (xs ++ (x ∷ [])) n d)
+    by_place (yes before) = subst (P n) (sym (before_end xs x d n before)) (old n before)
+    by_place (no behind) = subst (λ m. P m (get_or (xs ++ (x ∷ [])) m d)) last (subst (P (length xs)) (sym (at_end xs x d)) new)
+      where
+        last : length xs ≡ n
+        last = omega (arith, behind, simp length-append at lt)
 
 -- a table with room is as long with one more in it
 pub places_added : {T : Type 0} (t : Table T) (x : T) → is_full t ≡ false → places (added t x) ≡ places t
@@ -50,6 +62,14 @@ table_after table (Some x) = added table x
 pub posting_is : (h : Hall) (post : Option Entry) → posting h post ≡ with_post h (table_after h.post post)
 posting_is h None = refl
 posting_is h (Some x) = refl
+
+-- what has ended is in the log
+pub ended_logged : (h : Hall) (k : ℕ) → 0 < end_of (operation_of h k) → k < length h.log.list
+ended_logged h k o = by_place (dec_lt k (length h.log.list))
+  where
+    by_place : Dec (k < length h.log.list) → k < length h.log.list
+    by_place (yes lt) = lt
+    by_place (no past) = absurd (omega (arith, o, ap (λ z. end_of z) (get_or_past h.log.list k no_operation (omega arith))))
 
 -- there is one seat for each client
 pub seats_many : (h : Hall) → Sized h → length h.seats ≡ h.rules.clients

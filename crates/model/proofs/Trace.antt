@@ -16,10 +16,11 @@ use Rattle.model.specs.Runs.{Lawful, Opened, Run, Unforged}
 use Rattle.model.specs.Slips.{collecting, is_its_slip}
 use Rattle.model.proofs.Effects.{BeginCall, by_read, by_write, its_slip}
 use Rattle.model.proofs.Events.{slip_same, Event, nothing, begins, ends, BegunLog, EndedLog, begins_slip, slips, event_of}
-use Rattle.model.proofs.Growing.{Grows, grows_same, grows_trans, event_grows, ended_logged, along}
+use Rattle.model.proofs.Growing.{Grows, grows_same, grows_trans, event_grows, along}
 use Rattle.model.proofs.Invariants.{KnownPair, the_opening, a_write as of_a_write, Holds}
 use Rattle.model.proofs.RunKeeps.{sealed_at, holds_at}
 use Rattle.model.proofs.Ways.{way_in, not_some}
+use Rattle.model.proofs.Tables.{ended_logged}
 use Rattle.model.proofs.Stages.{in_stage}
 use Rattle.model.proofs.StageTests.{over_is}
 
