@@ -49,33 +49,36 @@ module _ (kind : ℕ) (sealed : List Text) (w : World) (holds : Holds kind seale
     (low : 1 ≤ client.number) (high : client.number ≤ w.hall.rules.clients)
     (log_room : is_full w.hall.log ≡ false) (post_room : is_full w.hall.post ≡ false)
     (seal : is_some word ≡ true → 0 < w.hall.seals client.number) where
-  op : Operation
+  abbrev op : Operation
   op = new_operation client.number word (w.hall.moment + 1)
+
+  abbrev world : World
+  world = begin_world w client word open_place given
 
   read : Entry
   read = read_of client (reading_next (seat_of w.hall client.number).line word)
 
   -- operations of the log with one more behind it
-  old_op : (k : ℕ) → k < length w.hall.log.list → operation_of (begin_world w client word open_place given).hall k ≡ operation_of w.hall k
-  old_op k lt = before_end w.hall.log.list (new_operation client.number word (w.hall.moment + 1)) no_operation k lt
+  old_op : (k : ℕ) → k < length w.hall.log.list → operation_of world.hall k ≡ operation_of w.hall k
+  old_op k lt = before_end w.hall.log.list op no_operation k lt
 
-  new_op : operation_of (begin_world w client word open_place given).hall (length w.hall.log.list) ≡ new_operation client.number word (w.hall.moment + 1)
-  new_op = at_end w.hall.log.list (new_operation client.number word (w.hall.moment + 1)) no_operation
+  new_op : operation_of world.hall (length w.hall.log.list) ≡ op
+  new_op = at_end w.hall.log.list op no_operation
 
   -- what holds of each old operation, and of the new one
-  each_op : (P : ℕ → Operation → Type 0) → ((k : ℕ) → k < length w.hall.log.list → P k (operation_of w.hall k)) → P (length w.hall.log.list) (new_operation client.number word (w.hall.moment + 1))
-      → (k : ℕ) → k < length (begin_world w client word open_place given).hall.log.list → P k (operation_of (begin_world w client word open_place given).hall k)
-  each_op P = each_with P w.hall.log.list (new_operation client.number word (w.hall.moment + 1)) no_operation
+  each_op : (P : ℕ → Operation → Type 0) → ((k : ℕ) → k < length w.hall.log.list → P k (operation_of w.hall k)) → P (length w.hall.log.list) op
+      → (k : ℕ) → k < length world.hall.log.list → P k (operation_of world.hall k)
+  each_op P = each_with P w.hall.log.list op no_operation
 
   -- what has ended or is stamped is old
-  ended_old : (k : ℕ) → 0 < end_of (operation_of (begin_world w client word open_place given).hall k) → k < length w.hall.log.list
-  ended_old k o = each_op (λ j y. 0 < end_of y → j < length w.hall.log.list) (λ j lt z. lt) (λ z. absurd (omega arith)) k (ended_logged (begin_world w client word open_place given).hall k o) o
+  ended_old : (k : ℕ) → 0 < end_of (operation_of world.hall k) → k < length w.hall.log.list
+  ended_old k o = each_op (λ j y. 0 < end_of y → j < length w.hall.log.list) (λ j lt z. lt) (λ z. absurd (omega arith)) k (ended_logged world.hall k o) o
 
-  stamped_old : (k : ℕ) → StampedWrite (begin_world w client word open_place given).hall k → StampedWrite w.hall k
+  stamped_old : (k : ℕ) → StampedWrite world.hall k → StampedWrite w.hall k
   stamped_old k s = each_op (λ j y. y.writes ≡ true → 0 < y.pair.stamp.count → StampedWrite w.hall j)
       (λ j lt writes stamped. record { logged = lt; writes = writes; stamped = stamped }) (λ writes stamped. absurd (omega arith)) k s.logged s.writes s.stamped
 
-  later_begun : Later w (begin_world w client word open_place given)
+  later_begun : Later w world
   unfolding post_added read
   later_begun = record {
     rolls = roll_stays w.hall;
@@ -93,13 +96,13 @@ module _ (kind : ℕ) (sealed : List Text) (w : World) (holds : Holds kind seale
     genuine = λ t s g. g;
   }
 
-  log_begun : LogRule (begin_world w client word open_place given)
+  log_begun : LogRule world
   unfolding later_begun history
   log_begun = record {
     moments = moments;
-    each = each_op (λ k y. OperationRule (begin_world w client word open_place given) k)
-        (λ k o. operation_later w (begin_world w client word open_place given) later_begun k o later_begun.moment (old_op k o) (holds.log.each k o)) new_rule;
-    rising = λ j k lt lk. each_op (λ m y. j < m → (operation_of (begin_world w client word open_place given).hall j).began < y.began)
+    each = each_op (λ k y. OperationRule world k)
+        (λ k o. operation_later w world later_begun k o later_begun.moment (old_op k o) (holds.log.each k o)) new_rule;
+    rising = λ j k lt lk. each_op (λ m y. j < m → (operation_of world.hall j).began < y.began)
         (λ m o less. let lj : j < length w.hall.log.list = omega arith in rw (old_op j lj) (holds.log.rising j m less o))
         (λ less. rw (old_op j less) (omega (arith, (holds.log.each j less).began_by))) k lk lt;
     own_stamp = λ j k sj sk e. holds.log.own_stamp j k (stamped_old j sj) (stamped_old k sk) (sym (number j (stamped_old j sj).logged) ∙ e ∙ number k (stamped_old k sk).logged);
@@ -108,16 +111,16 @@ module _ (kind : ℕ) (sealed : List Text) (w : World) (holds : Holds kind seale
     rises = λ j k o s. rw (number j (ended_old j o.over), number k (stamped_old k s).logged) (holds.log.rises j k (over j k (stamped_old k s).logged o) (stamped_old k s));
   }
     where
-      moments : w.hall.moment + 1 ≡ length (w.hall.log.list ++ (new_operation client.number word (w.hall.moment + 1) ∷ [])) + ends (w.hall.log.list ++ (new_operation client.number word (w.hall.moment + 1) ∷ []))
-      moments = rw (ends_begun w.hall.log.list (new_operation client.number word (w.hall.moment + 1)) refl) (simp length-append (omega (arith, holds.log.moments)))
+      moments : w.hall.moment + 1 ≡ length (w.hall.log.list ++ (op ∷ [])) + ends (w.hall.log.list ++ (op ∷ []))
+      moments = rw (ends_begun w.hall.log.list op refl) (simp length-append (omega (arith, holds.log.moments)))
 
-      number : (k : ℕ) → k < length w.hall.log.list → stamp_number (operation_of (begin_world w client word open_place given).hall k).pair ≡ stamp_number (operation_of w.hall k).pair
+      number : (k : ℕ) → k < length w.hall.log.list → stamp_number (operation_of world.hall k).pair ≡ stamp_number (operation_of w.hall k).pair
       number k lt = ap (λ z. stamp_number z.pair) (old_op k lt)
 
-      over : (j k : ℕ) → k < length w.hall.log.list → OverBefore (begin_world w client word open_place given).hall j k → OverBefore w.hall j k
+      over : (j k : ℕ) → k < length w.hall.log.list → OverBefore world.hall j k → OverBefore w.hall j k
       over j k lk o = let lj = ended_old j o.over in record { logged = lj; over = rw (old_op j lj) at o.over; before = rw (old_op j lj, old_op k lk) at o.before }
 
-      new_rule : OperationRule (begin_world w client word open_place given) (length w.hall.log.list)
+      new_rule : OperationRule world (length w.hall.log.list)
       new_rule = record {
         client_low = rw new_op low;
         client_high = rw new_op high;
@@ -146,7 +149,7 @@ module _ (kind : ℕ) (sealed : List Text) (w : World) (holds : Holds kind seale
       wrong e = omega arith
   write_rounds (there s) = omega (arith, (holds.seats client.number low high).writes s)
 
-  seat_begun : SeatRule kind (begin_world w client word open_place given) client.number (begin_seat w client.number word)
+  seat_begun : SeatRule kind world client.number (begin_seat w client.number word)
   unfolding later_begun history read
   seat_begun = record {
     base = record {
@@ -174,11 +177,11 @@ module _ (kind : ℕ) (sealed : List Text) (w : World) (holds : Holds kind seale
       mine : SeatRule kind w client.number (seat_of w.hall client.number)
       mine = holds.seats client.number low high
 
-      before : (k : ℕ) → OverBefore (begin_world w client word open_place given).hall k (length w.hall.log.list)
-          → SettledSomewhere (views w.hall) (history w.hall) (stamp_number (operation_of (begin_world w client word open_place given).hall k).pair)
+      before : (k : ℕ) → OverBefore world.hall k (length w.hall.log.list)
+          → SettledSomewhere (views w.hall) (history w.hall) (stamp_number (operation_of world.hall k).pair)
       before k o = let lk = ended_old k o.over in rw (old_op k lk) ((holds.log.each k lk).settled (rw (old_op k lk) at o.over))
 
-      reading : ReadingRule kind (begin_world w client word open_place given) client.number (begin_seat w client.number word).line (length w.hall.log.list)
+      reading : ReadingRule kind world client.number (begin_seat w client.number word).line (length w.hall.log.list)
       reading = record {
         read_asked = record {
           newer = [];
@@ -202,17 +205,17 @@ module _ (kind : ℕ) (sealed : List Text) (w : World) (holds : Holds kind seale
     sized = let s = holds.sized in record {
       tables = rw (
         places_added w.hall.post read post_room,
-        places_added w.hall.log (new_operation client.number word (w.hall.moment + 1)) log_room,
+        places_added w.hall.log op log_room,
         length-set w.hall.seats (client.number - 1) (begin_seat w client.number word),
       ) s.tables;
       limits = s.limits;
       post_limit = rw (places_added w.hall.post read post_room) s.post_limit;
-      log_limit = rw (places_added w.hall.log (new_operation client.number word (w.hall.moment + 1)) log_room) s.log_limit;
+      log_limit = rw (places_added w.hall.log op log_room) s.log_limit;
     };
     roll = holds.roll;
     good = subst (λ h. Good (views w.hall) h) (sym (history_added w.hall read))
         (next (justified_read shape (record { reads = λ p. fresh ((holds.seats client.number low high).reads p); writes = λ p. fresh ((holds.seats client.number low high).writes p) })) holds.good);
-    answers = answers_posted kind w (begin_world w client word open_place given) read later_begun refl (no_answer kind _ _ (λ e. omega arith) (λ e. omega arith)) holds.answers;
+    answers = answers_posted kind w world read later_begun refl (no_answer kind _ _ (λ e. omega arith) (λ e. omega arith)) holds.answers;
     cards = λ q lt. card_stays kind q later_begun refl (next (quiet_below (omega (arith, holds.sized.clients))) done) (holds.cards q lt);
     seats = seats_with client.number (begin_seat w client.number word) holds.sized low high seat_begun others;
     log = log_begun;
@@ -225,15 +228,15 @@ module _ (kind : ℕ) (sealed : List Text) (w : World) (holds : Holds kind seale
       fresh : {k : ℕ} → k ≤ (seat_of w.hall client.number).line.round → k < (seat_of w.hall client.number).line.round + 1
       fresh le = omega arith
 
-      others : (d : ℕ) → 1 ≤ d → d ≤ w.hall.rules.clients → (d ≡ client.number → ⊥) → SeatRule kind (begin_world w client word open_place given) d (seat_of w.hall d)
+      others : (d : ℕ) → 1 ≤ d → d ≤ w.hall.rules.clients → (d ≡ client.number → ⊥) → SeatRule kind world d (seat_of w.hall d)
       others d low' high' ne =
           let s = holds.seats d low' high' in
           later_seat kind d (seat_of w.hall d) later_begun (next (record { not_read = λ e k. ne (sym e); not_write = λ e k. ne (sym e) }) done) holds.log
           (λ busy. old_op _ (s.own busy).logged)
           (λ k old new is. ne (sym is ∙ new_client k old new)) (λ k st is. stamped_old k st) (omega arith) s
         where
-          new_client : (k : ℕ) → length w.hall.log.list ≤ k → k < length (begin_world w client word open_place given).hall.log.list → (operation_of (begin_world w client word open_place given).hall k).client ≡ client.number
-          new_client k old new = ap (λ m. (operation_of (begin_world w client word open_place given).hall m).client) at_last ∙ ap (λ z. z.client) new_op
+          new_client : (k : ℕ) → length w.hall.log.list ≤ k → k < length world.hall.log.list → (operation_of world.hall k).client ≡ client.number
+          new_client k old new = ap (λ m. (operation_of world.hall m).client) at_last ∙ ap (λ z. z.client) new_op
             where
               at_last : k ≡ length w.hall.log.list
               at_last = omega (arith, old, simp length-append at new)

@@ -14,10 +14,3 @@ not_above p q pw qw a = grind (arith, nat_tests)
 
 pub same_number : (p q : Pair) → same_stamp p.stamp q.stamp ≡ true → stamp_number p ≡ stamp_number q
 same_number p q s = grind (arith, nat_tests)
-
--- equal numbers are equal stamps
-pub number_same : (p q : Pair) → p.stamp.writer < 256 → q.stamp.writer < 256 → stamp_number p ≡ stamp_number q → p.stamp ≡ q.stamp
-number_same p q pw qw e =
-    let counts : p.stamp.count ≡ q.stamp.count = omega arith in
-    let writers : p.stamp.writer ≡ q.stamp.writer = omega arith in
-    λ i. record { count = counts i; writer = writers i }

@@ -159,20 +159,6 @@ module _ {V : Type 0} (kind : Kind V) (v : V) (start : World) (lawful : Lawful k
               here : k ≡ length (hall_at i).log.list
               here = omega (arith, new, now, b.longer)
 
-  -- a place of the log is begun once
-  pub one_start : (o o' c c' k : ℕ) (word word' : Option Word) → StartOf o c k word → StartOf o' c' k word' → o ≡ o'
-  one_start o o' c c' k word word' s s' = by_order (dec_lt o o') (dec_lt o' o)
-    where
-      too_long : (p q d d' : ℕ) (x x' : Option Word) → StartOf p d k x → StartOf q d' k x' → p < q → ⊥
-      too_long p q d d' x x' a b lt =
-          let g : Grows (hall_at (p + 1)) (hall_at q) = grows (p + 1) q (omega arith) (omega (arith, b.within)) in
-          omega (arith, g.longer, a.log.longer, a.place, b.place)
-
-      by_order : Dec (o < o') → Dec (o' < o) → o ≡ o'
-      by_order (yes lt) d = absurd (too_long o o' c c' word word' s s' lt)
-      by_order (no nl) (yes gt) = absurd (too_long o' o c' c word' word s' s gt)
-      by_order (no nl) (no ng) = omega arith
-
   -- with the call at position i the operation at place k ends
   pub record EndsHere (i k : ℕ) : Type 0 where
     pub client : ℕ
