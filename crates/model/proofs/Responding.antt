@@ -89,9 +89,6 @@ module _ {V : Type 0} (kind : Kind V) (v : V) (start : World) (lawful : Lawful k
       goes : OpenSeat j c u.place → OpenSeat (j + 1) c u.place
       goes s = by_staying (turn_staying s.opens s.operation (turn_at j c within s.low s.high))
         where
-          nothing_ended : {x : V} → ◌≡◌ {A = Option V} None (Some x) → ⊥
-          nothing_ended q = not_some q
-
           by_staying : Staying (run.call j) (run.answer j) (hall_at (j + 1)) c u.place → OpenSeat (j + 1) c u.place
           by_staying (stays_open o k) = record { low = s.low; high = s.high; opens = o; operation = k }
           by_staying (is_called_off off answer) = absurd (u.not_called_off j (omega arith) off answer)
@@ -101,7 +98,7 @@ module _ {V : Type 0} (kind : Kind V) (v : V) (start : World) (lawful : Lawful k
               let mine = (holds (j + 1) lc).seats c s.low high_there in
               let o = subst (λ m. 0 < end_of (operation_of (hall_at (j + 1)) m)) its (in_stage mine over).ended in
               let value = ended_valued kind v start lawful opened run unforged (j + 1) u.place lc o in
-              absurd (nothing_ended (sym (u.not_ended j (omega arith)) ∙ collects_over kind v start lawful opened run unforged (j + 1) c u.place lc s.low high_there over its ∙ value.is))
+              not_some (sym (u.not_ended j (omega arith)) ∙ collects_over kind v start lawful opened run unforged (j + 1) c u.place lc s.low high_there over its ∙ value.is)
 
       base : u.position ≡ j → OpenSeat (j + 1) c u.place
       base here =

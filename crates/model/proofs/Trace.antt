@@ -331,7 +331,7 @@ module _ {V : Type 0} (kind : Kind V) (v : V) (start : World) (lawful : Lawful k
       c = collected (p + 1) e.client e.place u le e.answers
 
       too_early : FoundEnd p e.place → ⊥
-      too_early f = nothing_there (sym (e.first f.position f.earlier) ∙ collects_over (f.position + 1) e.client e.place (omega (arith, f.earlier, e.within))
+      too_early f = not_some (sym (e.first f.position f.earlier) ∙ collects_over (f.position + 1) e.client e.place (omega (arith, f.earlier, e.within))
           c.low (subst (λ r. e.client ≤ r.clients) (grows (f.position + 1) (p + 1) (omega (arith, f.earlier)) le).rules c.high) over its ∙ valued.is)
         where
           here_ends : EndsHere f.position e.place
@@ -348,9 +348,6 @@ module _ {V : Type 0} (kind : Kind V) (v : V) (start : World) (lawful : Lawful k
 
           valued : Valued (operation_of (hall_at (f.position + 1)) e.place).pair.word
           valued = ended_valued (f.position + 1) e.place (omega (arith, f.earlier, e.within)) (omega (arith, here_ends.log.now))
-
-          nothing_there : {x : V} → ◌≡◌ {A = Option V} None (Some x) → ⊥
-          nothing_there q = not_some q
 
       by_case : (0 < end_of (operation_of (hall_at p) e.place)) ⊎ EndsHere p e.place → EndAt p e.client e.place u
       by_case (inl before) = absurd (too_early (found_end p (omega (arith, e.within)) e.place before))
