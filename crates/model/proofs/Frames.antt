@@ -65,7 +65,7 @@ pub posted_entry : (h : Hall) (n : ℕ) → n < length h.post.list → Posted (�
 unfolding history
 posted_entry h n lt = posted_map (λ x e. e ∙ history_at h n lt) (posted_at (reverse h.post.list) (length h.post.list - 1 - n) no_entry (omega (arith, length-reverse h.post.list)))
 
--- so one of a shape does
+-- and one of a shape stands there as such
 pub posted_as : {P : Entry → Type 0} (h : Hall) (n : ℕ) → n < length h.post.list → P (entry_of h n) → Posted P (history h)
 posted_as {P} h n lt p = posted_map (λ y is. subst P (sym is) p) (posted_entry h n lt)
 

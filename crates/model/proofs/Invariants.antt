@@ -182,7 +182,7 @@ pub record SendingRule (kind : ℕ) (w : World) (c : ℕ) (line : Line) (operati
   pub ends_with : EndPair w line.highest operation writes
   pub open ends_with use *
 
--- once it is over
+-- once the operation is over: it has ended, with this pair
 pub record OverRule (w : World) (pair : Pair) (operation : ℕ) : Type 0 where
   pub ended : 0 < end_of (operation_of w.hall operation)
   pub with_pair : (operation_of w.hall operation).pair ≡ pair

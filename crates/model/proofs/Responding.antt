@@ -1,6 +1,6 @@
 -- Response: once answers of enough honest replicas to an open round were handed to its client, the round is over.
 -- Each answer that is handed over is counted, and a round in which a quorum is counted is not open.
-use Rattle.std.proofs.Common.{◌≡◌, ℕ, zero, suc, ◌+◌, ◌*◌, ◌<◌, ◌≤◌, max, true, false, ◌&&◌, eqb, leb, ◌⊎◌, length, Some, None, Option, sym, refl, ap, ◌∙◌, subst, ⊎_elim, inl, inr, add-one, arith, eq-eqb, le-leb, ltb}
+use Rattle.std.proofs.Common.{◌≡◌, ℕ, zero, suc, ◌+◌, ◌*◌, ◌<◌, ◌≤◌, max, true, false, ◌&&◌, eqb, leb, ◌⊎◌, length, Some, sym, refl, ap, ◌∙◌, subst, ⊎_elim, inl, inr, add-one, arith, eq-eqb, le-leb, ltb}
 use Rattle.std.proofs.lemmas.Bool.{and_from, lt-ltb}
 use native.Mathlib.Decide.{ℕ_discrete, dec_lt}
 use borrow.Author.Tests.{clash}
