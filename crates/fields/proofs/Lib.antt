@@ -2,3 +2,4 @@ pub mod Cutting
 pub mod Joining
 pub mod Reading
 pub mod Signs
+pub mod Counting

@@ -1,7 +1,8 @@
 -- The rows and counts of a text, line by line: what is so far, one line more, and the end. Assumes nothing.
 use Rattle.std.proofs.Common.{◌≡◌, ℕ, ◌+◌, ◌≤◌, Bool, true, false, cond, eqb, List, [], ◌∷◌, ◌++◌, length, is_ok, sym, refl, ap, ◌∙◌, subst, append_assoc, append-nil, arith}
 use Rattle.std.proofs.lemmas.Bool.{cond_both}
-use Rattle.fields.specs.Parts.{onto, lines}
+use Rattle.fields.specs.Parts.{lines}
+use Rattle.fields.proofs.Counting.{lines_few}
 use Rattle.reports.specs.Reports.{tried, row, rows, replies, refused, totals, printed}
 
 -- out is the rows of the lines before left, of which values were answered and refusals refused
@@ -16,18 +17,6 @@ left_as {text} {out} {ls} {values} {refusals} left h e = subst (λ x. Sofar text
 
 pub counted_as : {text out out' : List ℕ} {left : List (List ℕ)} {values values' refusals refusals' : ℕ} → out' ≡ out → values' ≡ values → refusals' ≡ refusals → Sofar text left out values refusals → Sofar text left out' values' refusals'
 counted_as {text} {out} {out'} {left} o v f h = subst (λ x. x) (λ i. Sofar text left (sym o i) (sym v i) (sym f i)) h
-
--- a text has at most as many lines as bytes
-onto_few : (c : ℕ) (ps : List (List ℕ)) → length (onto c ps) ≤ length ps + 1
-onto_few c [] = omega arith
-onto_few c (p ∷ ps) = omega arith
-
-lines_few : (text : List ℕ) → length (lines text) ≤ length text
-lines_few [] = omega arith
-lines_few (c ∷ cs) =
-    cond_both (eqb c 10) _ _ (λ ps. length ps ≤ length (c ∷ cs))
-    (λ _. omega (arith, lines_few cs))
-    (λ _. omega (arith, lines_few cs, onto_few c (lines cs)))
 
 -- each line counts once: by its answer b
 one : (b : Bool) (m n : ℕ) → (cond b 1 0 + m) + (cond b 0 1 + n) ≡ m + n + 1

@@ -1,3 +1,12 @@
 pub mod Faults
 pub mod Slips
+pub mod Kinds
+pub mod Asks
+pub mod Plays
+pub mod Views
+pub mod Texts
+pub mod Left
+pub mod Openings
 pub mod Outputs
+pub mod Turns
+pub mod Opened

@@ -1,27 +1,80 @@
--- What is printed of a script, and the set-up among its lines.
-use Rattle.std.specs.Prelude.{◌≡◌, ℕ, List, Some, None, Option}
+-- What is printed for a script.
+use Rattle.std.specs.Prelude.{◌≡◌, ℕ, ◌+◌, List, [], ◌∷◌, ◌++◌, length, Some, None, Ok, Err}
+use Rattle.std.specs.List.{AllByRecursion}
+use Rattle.kinds.specs.declared.bin_weight.BinWeight.{BinWeight}
+use Rattle.kinds.specs.BinWeights.{weight}
 use Rattle.refusals.specs.declared.Refusal.{Refusal}
-use Rattle.wire.specs.declared.pair.Configuration.{Configuration}
-use Rattle.halls.specs.declared.operation.Operation.{Operation}
 use Rattle.script.specs.declared.command.SetUp.{SetUp}
-use Rattle.script.specs.declared.command.Command.{Command}
-use Rattle.script.specs.declared.command.Command.TheVariants.{SetUp as Sets, Issue, Read, Write, Deliver, CallOff, Collect, Meddle}
 use Rattle.script.specs.Reports.{printed}
+use Rattle.model.specs.Halls.{World}
+use Rattle.model.specs.Runs.{Run}
+use Rattle.model.specs.Promise.{Promised}
+use Rattle.runner.specs.declared.fault.ScriptFault.{ScriptFault}
+use Rattle.runner.specs.declared.fault.ScriptFault.TheVariants.{Unreadable}
+use Rattle.runner.specs.Kinds.{bin_weights}
+use Rattle.runner.specs.Texts.{Numbered, set_up_of}
+use Rattle.runner.specs.Openings.{opening}
+use Rattle.runner.specs.Plays.{Plays, told}
 
-abbrev pub set_up_in : Option Command → Option SetUp
-set_up_in None = None
-set_up_in (Some (Sets asked)) = Some asked
-set_up_in (Some (Issue set)) = None
-set_up_in (Some (Read client)) = None
-set_up_in (Some (Write client grams lot)) = None
-set_up_in (Some (Deliver entry party)) = None
-set_up_in (Some (CallOff client)) = None
-set_up_in (Some (Collect client)) = None
-set_up_in (Some (Meddle party entry)) = None
+-- lines that are not to be read where they stand; the first has this number
+abbrev pub unread : ℕ → List (List ℕ) → List Refusal
+unread number [] = []
+unread number (line ∷ rest) = told number (Some Unreadable) ++ unread (number + 1) rest
 
--- the text is the report of some roll, some log and some refusals
-pub record IsReport (text : List ℕ) : Type 0 where
-  pub roll : List Configuration
-  pub log : List Operation
+-- none of these lines asks for a set-up
+abbrev pub NoSetUp : List (List ℕ) → Type 0
+NoSetUp lines = AllByRecursion (λ line. set_up_of line ≡ None) lines
+
+-- the first set-up among these lines, and what stands before it and behind it
+pub record FirstSetUp (lines : List (List ℕ)) : Type 0 where
+  pub before : List (List ℕ)
+  pub line : List ℕ
+  pub behind : List (List ℕ)
+  pub parts : lines ≡ before ++ (line ∷ behind)
+  pub none : NoSetUp before
+  pub asked : SetUp
+  pub asks : set_up_of line ≡ Some asked
+
+-- a run from this world to that one
+pub record RunTo (start last : World) : Type 0 where
+  pub run : Run bin_weights start
+  pub ends : run.world run.calls ≡ last
+
+-- the promise holds of a hall that was opened with the value that the set-up names
+pub record PromisedFor (asked : SetUp) (start : World) : Type 0 where
+  pub value : BinWeight
+  pub valued : weight asked.grams asked.lot ≡ Some value
+  pub promised : Promised bin_weights value start
+
+-- the hall was opened, and the promise holds of it; these lines were played, and their calls make up a run;
+-- what is printed is its last roll and log, and what was refused before and then
+pub record Ran (asked : SetUp) (l : Numbered) (before : List Refusal) (text : List ℕ) : Type 0 where
+  pub start : World
+  pub opens : opening asked ≡ Ok start.hall
+  pub promised : PromisedFor asked start
+  pub last : World
   pub refusals : List Refusal
-  pub is : text ≡ printed roll log refusals
+  pub plays : Plays l.number start l.lines refusals last
+  pub run : RunTo start last
+  pub shown : text ≡ printed last.hall.roll.list last.hall.log.list (before ++ refusals)
+
+-- nothing but refusals: those before, that of the set-up in the line of this number, and every line behind it
+abbrev pub refused_text : ℕ → Numbered → List Refusal → ScriptFault → List ℕ
+refused_text number l before fault = printed [] [] (before ++ (told number (Some fault) ++ unread l.number l.lines))
+
+-- what comes of a set-up in the line of this number, with these lines behind it and these refusals before it
+pub data Goes (asked : SetUp) (number : ℕ) (l : Numbered) (before : List Refusal) (text : List ℕ) : Type 0 where
+  unopened : (fault : ScriptFault) → opening asked ≡ Err fault → text ≡ refused_text number l before fault → Goes asked number l before text
+  played : Ran asked l before text → Goes asked number l before text
+
+-- the number of the set-up's line, and the lines behind it
+abbrev pub number_of : {lines : List (List ℕ)} → FirstSetUp lines → ℕ
+number_of f = 1 + length f.before
+
+abbrev pub behind_of : {lines : List (List ℕ)} → FirstSetUp lines → Numbered
+behind_of f = record { number = number_of f + 1; lines = f.behind }
+
+-- what is printed for these lines
+pub data Shows (lines : List (List ℕ)) (text : List ℕ) : Type 0 where
+  without_set_up : NoSetUp lines → text ≡ printed [] [] (unread 1 lines) → Shows lines text
+  with_set_up : (f : FirstSetUp lines) → Goes f.asked (number_of f) (behind_of f) (unread 1 f.before) text → Shows lines text

@@ -2,10 +2,12 @@
 #![tactic(auto)]
 
 mod fault;
+mod lines;
 mod memory;
 mod opening;
 mod play;
 mod running;
 
 pub use fault::ScriptFault;
-pub use play::{LIMIT, run};
+pub use lines::LIMIT;
+pub use play::run;

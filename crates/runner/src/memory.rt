@@ -1,4 +1,7 @@
 // The memory of the tables of a script's hall, and of its book.
+ghost use Rattle.std.specs.Prelude.{IfOk};
+ghost use Rattle.runner.specs.Opened.{Fresh};
+
 use clients::Line;
 use halls::{Operation, Seat};
 use std::alloc::{AllocError, Global};
@@ -18,7 +21,9 @@ pub(crate) struct Memory {
 }
 
 impl Memory {
-    pub(crate) fn new(heap: Global) -> Result<Memory, AllocError> {
+    pub(crate) fn new(heap: Global) -> Result<Memory, AllocError>
+        ensures { IfOk result Fresh }
+    {
         let operation = Operation {
             client: 0,
             writes: false,

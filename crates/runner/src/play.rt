@@ -1,14 +1,19 @@
 // A script from its first line to what is printed.
-ghost use Rattle.std.specs.Prelude.{◌≡◌, ◌<◌, ◌^◌, length, IfOk, string_bytes};
-ghost use Rattle.fields.specs.Parts.{fields};
-ghost use Rattle.script.specs.Commands.{command_in};
-ghost use Rattle.runner.specs.Outputs.{set_up_in, IsReport};
+ghost use Rattle.std.specs.Prelude.{◌≡◌, ◌++◌, take, IfOk, string_bytes};
+ghost use Rattle.std.specs.Vec.{vec_items};
+ghost use Rattle.refusals.specs.Places.{moved};
+ghost use Rattle.runner.specs.Faults.{script_refusal};
+ghost use Rattle.runner.specs.Left.{left};
+ghost use Rattle.runner.specs.Texts.{limit, script_lines, set_up_of, Countable};
+ghost use Rattle.runner.specs.Outputs.{unread, refused_text, Goes, Shows};
+ghost use Rattle.runner.specs.Turns.{Searched, Played};
+ghost use Rattle.runner.specs.Views.{world};
 
 use crate::fault::ScriptFault;
+use crate::lines::{LIMIT, Numbered, numbered};
 use crate::memory::{Memory, SEALS};
 use crate::opening::open;
 use crate::running::Running;
-use fields::Lines;
 use halls::HallFault;
 use lists::List;
 use refusals::{Fault, Refusal};
@@ -16,44 +21,11 @@ use register::Tables;
 use script::{Command, SetUp, report};
 use sealers::Book;
 use std::alloc::{AllocError, Global};
-use std::iter::{Chain, Zip};
-use std::ops::RangeFrom;
-use std::option::IntoIter;
 use stores::Cabinet;
-
-// How many bytes of a script are read.
-pub const LIMIT: u64 = 32768;
-
-// The lines of a script with their numbers.
-type Numbered<'a> = Zip<Chain<Lines<'a>, IntoIter<&'a [u8]>>, RangeFrom<u64>>;
-
-// A script without its last line, where that may be cut short: where the text is as long as a script can be, and does not end the line.
-fn whole_lines(text: &[u8]) -> &[u8]
-    ensures { length text.now < 2 ^ 15 → result.now ≡ text.now }
-{
-    if (text.len() as u64) < LIMIT {
-        return text;
-    }
-    match text.iter().rposition(|byte| *byte == b'\n') {
-        Some(end) => &text[..end + 1],
-        None => &[],
-    }
-}
-
-// The lines of a script. One that is cut short stands as an empty one, which cannot be read either.
-fn lines_of(text: &[u8]) -> Numbered<'_> {
-    let whole = whole_lines(text);
-    let cut: Option<&[u8]> = if whole.len() < text.len() {
-        Some(&[])
-    } else {
-        None
-    };
-    Lines::new(whole).chain(cut).zip(1..)
-}
 
 // The set-up that a line asks for.
 fn set_up(line: &[u8]) -> Option<SetUp>
-    ensures { result ≡ set_up_in (command_in (fields line.now)) }
+    ensures { result ≡ set_up_of line.now }
 {
     match Command::read(line)? {
         Command::SetUp(asked) => Some(asked),
@@ -61,16 +33,26 @@ fn set_up(line: &[u8]) -> Option<SetUp>
     }
 }
 
+// The refusal of the line of this number.
+fn refusal_of(number: u64, fault: ScriptFault) -> Refusal
+    ensures { result ≡ moved (script_refusal fault) number }
+{
+    fault.told().at(number)
+}
+
 // Takes the lines up to the first set-up, and refuses those before it.
 fn first_set_up(
     lines: &mut Numbered,
     refusals: &mut Vec<Refusal>,
-) -> Result<Option<(u64, SetUp)>, AllocError> {
-    for (line, number) in lines.by_ref() {
+) -> Result<Option<(u64, SetUp)>, AllocError>
+    requires { Countable (left lines.old.a lines.old.b.start) }
+    ensures { IfOk result (λ found. Searched (left lines.old.a lines.old.b.start) (vec_items refusals.old) found (left lines.new.a lines.new.b.start) (vec_items refusals.new)) }
+{
+    while let Some((line, number)) = lines.next() {
         if let Some(asked) = set_up(line) {
             return Ok(Some((number, asked)));
         }
-        refusals.push(ScriptFault::Unreadable.told().at(number))?;
+        refusals.push(refusal_of(number, ScriptFault::Unreadable))?;
     }
     Ok(None)
 }
@@ -80,19 +62,25 @@ fn run_lines(
     running: &mut Running,
     lines: Numbered,
     refusals: &mut Vec<Refusal>,
-) -> Result<(), AllocError> {
+) -> Result<(), AllocError>
+    requires { Countable (left lines.a lines.b.start) }
+    ensures { IfOk result (λ done. Played (left lines.entry.a lines.entry.b.start) (world running.old) (vec_items refusals.old) (world running.new) (vec_items refusals.new)) }
+{
     for (line, number) in lines {
         if let Err(fault) = running.take(line) {
-            refusals.push(fault.told().at(number))?;
+            refusals.push(refusal_of(number, fault))?;
         }
     }
     Ok(())
 }
 
 // Refuses the lines that are left.
-fn refuse_lines(lines: Numbered, refusals: &mut Vec<Refusal>) -> Result<(), AllocError> {
+fn refuse_lines(lines: Numbered, refusals: &mut Vec<Refusal>) -> Result<(), AllocError>
+    requires { Countable (left lines.a lines.b.start) }
+    ensures { IfOk result (λ done. vec_items refusals.new ≡ vec_items refusals.old ++ unread (left lines.entry.a lines.entry.b.start).number (left lines.entry.a lines.entry.b.start).lines) }
+{
     for (_, number) in lines {
-        refusals.push(ScriptFault::Unreadable.told().at(number))?;
+        refusals.push(refusal_of(number, ScriptFault::Unreadable))?;
     }
     Ok(())
 }
@@ -105,9 +93,10 @@ fn unopened(
     lines: Numbered,
     mut refusals: Vec<Refusal>,
 ) -> Result<String, AllocError>
-    ensures { IfOk result (λ s. IsReport (string_bytes s)) }
+    requires { Countable (left lines.a lines.b.start) }
+    ensures { IfOk result (λ s. string_bytes s ≡ refused_text number (left lines.entry.a lines.entry.b.start) (vec_items refusals) fault) }
 {
-    refusals.push(fault.told().at(number))?;
+    refusals.push(refusal_of(number, fault))?;
     refuse_lines(lines, &mut refusals)?;
     report(heap, &[], &[], refusals.as_slice())
 }
@@ -120,7 +109,8 @@ fn play(
     lines: Numbered,
     mut refusals: Vec<Refusal>,
 ) -> Result<String, AllocError>
-    ensures { IfOk result (λ s. IsReport (string_bytes s)) }
+    requires { Countable (left lines.a lines.b.start) }
+    ensures { IfOk result (λ s. Goes asked number (left lines.entry.a lines.entry.b.start) (vec_items refusals) (string_bytes s)) }
 {
     let mut memory = Memory::new(heap)?;
     let clients = memory.seats.len().min(asked.clients as usize);
@@ -152,11 +142,11 @@ fn play(
 
 // Runs a script, of which no more than the first bytes are looked at, and says what is printed.
 pub fn run(heap: Global, text: &[u8]) -> Result<String, AllocError>
-    ensures { IfOk result (λ s. IsReport (string_bytes s)) }
+    ensures { IfOk result (λ s. Shows (script_lines (take limit text.now)) (string_bytes s)) }
 {
     let mut refusals = Vec::new(heap);
     let read = &text[..text.len().min(LIMIT as usize)];
-    let mut lines = lines_of(read);
+    let mut lines = numbered(read);
     match first_set_up(&mut lines, &mut refusals)? {
         Some((number, asked)) => play(heap, number, asked, lines, refusals),
         None => report(heap, &[], &[], refusals.as_slice()),

@@ -1,16 +1,15 @@
 // A hall that is open, with its tables, its store and its sealer, and one method for each call of a script.
 ghost use Rattle.std.specs.Prelude.{◌≡◌, IfOk, string_bytes};
-ghost use Rattle.lists.specs.Held.{held};
+ghost use Rattle.std.specs.Result.{result_err};
+ghost use Rattle.kinds.specs.BinWeights.{weight};
+ghost use Rattle.fields.specs.Parts.{fields};
+ghost use Rattle.script.specs.Commands.{command_in};
 ghost use Rattle.script.specs.Reports.{printed};
-ghost use Rattle.stores.specs.Saved.{Shelf};
-ghost use Rattle.stores.specs.Cabinets.{cabinet_shelf};
-ghost use Rattle.sealers.specs.Sealing.{Desk};
-ghost use Rattle.sealers.specs.Books.{book_desk};
-ghost use Rattle.model.specs.Issuing.{issue_called};
-ghost use Rattle.model.specs.Delivering.{deliver_called};
-ghost use Rattle.model.specs.Meddling.{meddle_called};
-ghost use Rattle.register.specs.Worlds.{bare, done_or, outcome, world_of};
+ghost use Rattle.model.specs.Calls.{issue, begin_read, begin_write, deliver, call_off, collect, meddle};
 ghost use Rattle.runner.specs.Slips.{HasSlip, holds_its_slip};
+ghost use Rattle.runner.specs.Asks.{asks, calls, ending, lodging, redeeming, writing};
+ghost use Rattle.runner.specs.Plays.{Does};
+ghost use Rattle.runner.specs.Views.{world, hall_fault, Lodges, Redeems};
 
 use crate::fault::ScriptFault;
 use halls::HallFault;
@@ -34,7 +33,8 @@ pub(crate) struct Running<'a> {
 impl Running<'_> {
     // Lodges a slip, which is not refused here.
     fn lodge(&mut self, slip: Slip)
-        requires { HasSlip (bare self.old.hall self.old.tables) slip.client slip.operation }
+        requires { HasSlip (world self.old).hall slip.client slip.operation }
+        ensures { Lodges (world self.old) slip.client slip.operation (world self.new) }
     {
         match self.hall.lodge(&mut self.tables, slip) {
             Ok(()) => {}
@@ -42,7 +42,9 @@ impl Running<'_> {
         }
     }
 
-    fn begin_read(&mut self, client: u64) -> Result<(), HallFault> {
+    fn begin_read(&mut self, client: u64) -> Result<(), HallFault>
+        ensures { Does (world self.old) (calls (begin_read client) lodging) (hall_fault result) (world self.new) }
+    {
         let slip = self
             .hall
             .begin_read(&mut self.tables, client, &self.sealer)?;
@@ -50,7 +52,9 @@ impl Running<'_> {
         Ok(())
     }
 
-    fn begin_write(&mut self, client: u64, value: BinWeight) -> Result<(), HallFault> {
+    fn begin_write(&mut self, client: u64, value: BinWeight) -> Result<(), HallFault>
+        ensures { Does (world self.old) (calls (begin_write client value) lodging) (hall_fault result) (world self.new) }
+    {
         let slip = self
             .hall
             .begin_write(&mut self.tables, client, value, &self.sealer)?;
@@ -58,10 +62,19 @@ impl Running<'_> {
         Ok(())
     }
 
+    // Begins a write of these grams and this lot, if they are a value.
+    fn write(&mut self, client: u64, grams: i64, lot: u64) -> Result<(), ScriptFault>
+        ensures { Does (world self.old) (writing client (weight grams lot)) (result_err result) (world self.new) }
+    {
+        let value = BinWeight::new(grams, lot)?;
+        self.begin_write(client, value)?;
+        Ok(())
+    }
+
     // Whether the slip that is lodged with a client is that of its present operation.
     // Stays: a slip that is lodged always is. It is looked at, so that this need not be known of every line before.
     fn holds_its_slip(&self, client: u64) -> bool
-        ensures { result ≡ holds_its_slip (bare self.now.hall self.now.tables) client }
+        ensures { result ≡ holds_its_slip (world self.now).hall client }
     {
         match self.tables.seats.get(client.saturating_sub(1) as usize) {
             Some(seat) => !seat.line.stage.is_idle() && seat.lodged == Some(seat.operation),
@@ -70,7 +83,8 @@ impl Running<'_> {
     }
 
     fn redeem(&mut self, client: u64) -> Result<Slip, HallFault>
-        ensures { IfOk result (λ slip. HasSlip (bare self.new.hall self.new.tables) slip.client slip.operation) }
+        ensures has { IfOk result (λ slip. HasSlip (world self.new).hall slip.client slip.operation) }
+        ensures step { Redeems (world self.old) client result (world self.new) }
     {
         if !self.holds_its_slip(client) {
             return Err(HallFault::NotItsSlip(client));
@@ -80,15 +94,18 @@ impl Running<'_> {
 
     // A refusal lodges the slip again.
     fn kept(&mut self, kept: Kept) -> HallFault
-        requires { HasSlip (bare self.old.hall self.old.tables) kept.slip.client kept.slip.operation }
-        ensures { result ≡ kept.fault }
+        requires { HasSlip (world self.old).hall kept.slip.client kept.slip.operation }
+        ensures fault { result ≡ kept.fault }
+        ensures step { Lodges (world self.old) kept.slip.client kept.slip.operation (world self.new) }
     {
         let Kept { slip, fault } = kept;
         self.lodge(slip);
         fault
     }
 
-    fn call_off(&mut self, client: u64) -> Result<(), HallFault> {
+    fn call_off(&mut self, client: u64) -> Result<(), HallFault>
+        ensures { Does (world self.old) (redeeming call_off (world self.old).hall client) (hall_fault result) (world self.new) }
+    {
         let slip = self.redeem(client)?;
         match self.hall.call_off(&mut self.tables, slip) {
             Ok(()) => Ok(()),
@@ -96,7 +113,9 @@ impl Running<'_> {
         }
     }
 
-    fn collect(&mut self, client: u64) -> Result<(), HallFault> {
+    fn collect(&mut self, client: u64) -> Result<(), HallFault>
+        ensures { Does (world self.old) (redeeming collect (world self.old).hall client) (hall_fault result) (world self.new) }
+    {
         let slip = self.redeem(client)?;
         match self.hall.collect(&mut self.tables, slip) {
             Ok(_) => Ok(()),
@@ -105,14 +124,13 @@ impl Running<'_> {
     }
 
     fn issue(&mut self, set: ReplicaSet) -> Result<(), HallFault>
-        ensures change { (shelf : Shelf) → outcome {V = BinWeight} (done_or result) self.new.hall self.new.tables shelf (book_desk self.new.sealer) ≡ issue_called (world_of self.old.hall self.old.tables shelf (book_desk self.old.sealer)) set }
-        ensures store { self.new.store ≡ self.old.store }
+        ensures { Does (world self.old) (calls (issue set) ending) (hall_fault result) (world self.new) }
     {
         self.hall.issue(&mut self.tables, set, &mut self.sealer)
     }
 
     fn deliver(&mut self, entry: u64, party: u64) -> Result<(), HallFault>
-        ensures { outcome {V = BinWeight} (done_or result) self.new.hall self.new.tables (cabinet_shelf self.new.store) (book_desk self.new.sealer) ≡ deliver_called (world_of self.old.hall self.old.tables (cabinet_shelf self.old.store) (book_desk self.old.sealer)) 1 entry party }
+        ensures { Does (world self.old) (calls (deliver entry party) ending) (hall_fault result) (world self.new) }
     {
         self.hall.deliver::<Cabinet, Book>(
             &mut self.tables,
@@ -124,22 +142,20 @@ impl Running<'_> {
     }
 
     fn meddle(&mut self, party: u64, entry: Entry) -> Result<(), HallFault>
-        ensures change { (shelf : Shelf) (desk : Desk) → outcome {V = BinWeight} (done_or result) self.new.hall self.new.tables shelf desk ≡ meddle_called (world_of self.old.hall self.old.tables shelf desk) party entry }
-        ensures store { self.new.store ≡ self.old.store }
-        ensures sealer { self.new.sealer ≡ self.old.sealer }
+        ensures { Does (world self.old) (calls (meddle party entry) ending) (hall_fault result) (world self.new) }
     {
         self.hall.meddle(&mut self.tables, party, entry)
     }
 
     // Makes the calls that a line asks for; another set-up is not to be read here.
-    pub(crate) fn take(&mut self, line: &[u8]) -> Result<(), ScriptFault> {
+    pub(crate) fn take(&mut self, line: &[u8]) -> Result<(), ScriptFault>
+        ensures { Does (world self.old) (asks (world self.old).hall (command_in (fields line.now))) (result_err result) (world self.new) }
+    {
         match Command::read(line).ok_or(ScriptFault::Unreadable)? {
             Command::SetUp(_) => return Err(ScriptFault::Unreadable),
             Command::Issue { set } => self.issue(set)?,
             Command::Read { client } => self.begin_read(client)?,
-            Command::Write { client, grams, lot } => {
-                self.begin_write(client, BinWeight::new(grams, lot)?)?
-            }
+            Command::Write { client, grams, lot } => self.write(client, grams, lot)?,
             Command::Deliver { entry, party } => self.deliver(entry, party)?,
             Command::CallOff { client } => self.call_off(client)?,
             Command::Collect { client } => self.collect(client)?,
@@ -150,7 +166,7 @@ impl Running<'_> {
 
     // What is printed of it.
     pub(crate) fn report(&self, heap: Global, refusals: &[Refusal]) -> Result<String, AllocError>
-        ensures { IfOk result (λ s. string_bytes s ≡ printed (held self.now.tables.roll) (held self.now.tables.log) refusals.now) }
+        ensures { IfOk result (λ s. string_bytes s ≡ printed (world self.now).hall.roll.list (world self.now).hall.log.list refusals.now) }
     {
         let roll = self.tables.roll.used();
         let log = self.tables.log.used();

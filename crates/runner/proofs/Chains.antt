@@ -1,0 +1,74 @@
+-- The calls of a script's lines, each of them a step, make up a run. Assumes nothing.
+use Rattle.std.proofs.Common.{◌≡◌, ℕ, zero, suc, ◌+◌, ◌<◌, List, Option, refl, sym, subst, arith}
+use Rattle.kinds.specs.declared.bin_weight.BinWeight.{BinWeight}
+use Rattle.refusals.specs.declared.Refusal.{Refusal}
+use Rattle.model.specs.Halls.{World}
+use Rattle.model.specs.Answers.{Answer, done}
+use Rattle.model.specs.Calls.{Call, redeem, Step}
+use Rattle.runner.specs.declared.fault.ScriptFault.{ScriptFault}
+use Rattle.runner.specs.Kinds.{bin_weights}
+use Rattle.runner.specs.Asks.{Asks}
+use Rattle.runner.specs.Plays.{Does, stops, goes_on, Plays, ended, line}
+use Rattle.runner.specs.Outputs.{RunTo}
+
+-- steps from one world to another
+data Chain (last : World) : World → Type 0 where
+  none : Chain last last
+  more : {w next : World} {call : Call BinWeight} {answer : Answer BinWeight} → Step bin_weights w call answer next → Chain last next → Chain last w
+
+of_asks : {last before after : World} {asked : Asks} {fault : Option ScriptFault} → Does before asked fault after → Chain last after → Chain last before
+of_asks stops rest = rest
+of_asks (goes_on step does) rest = more step (of_asks does rest)
+
+of_lines : {number : ℕ} {before last : World} {lines : List (List ℕ)} {refusals : List Refusal} → Plays number before lines refusals last → Chain last before
+of_lines ended = none
+of_lines (line does plays) = of_asks does (of_lines plays)
+
+abbrev many : {last w : World} → Chain last w → ℕ
+many none = 0
+many (more step rest) = suc (many rest)
+
+abbrev world_at : {last w : World} → Chain last w → ℕ → World
+world_at {last} none i = last
+world_at {w = w} (more step rest) zero = w
+world_at (more step rest) (suc i) = world_at rest i
+
+abbrev call_at : {last w : World} → Chain last w → ℕ → Call BinWeight
+call_at none i = redeem 0
+call_at (more {call = call} step rest) zero = call
+call_at (more step rest) (suc i) = call_at rest i
+
+abbrev answer_at : {last w : World} → Chain last w → ℕ → Answer BinWeight
+answer_at none i = done
+answer_at (more {answer = answer} step rest) zero = answer
+answer_at (more step rest) (suc i) = answer_at rest i
+
+first : {last w : World} (chain : Chain last w) → world_at chain 0 ≡ w
+first none = refl
+first (more step rest) = refl
+
+at_end : {last w : World} (chain : Chain last w) → world_at chain (many chain) ≡ last
+at_end none = refl
+at_end (more step rest) = at_end rest
+
+step_at : {last w : World} (chain : Chain last w) (i : ℕ) → i < many chain → Step bin_weights (world_at chain i) (call_at chain i) (answer_at chain i) (world_at chain (suc i))
+step_at none i lt = absurd (omega arith)
+step_at (more {w = w} {call = call} {answer = answer} step rest) zero lt = subst (λ x. Step bin_weights w call answer x) (sym (first rest)) step
+step_at (more step rest) (suc i) lt = step_at rest i (omega arith)
+
+run_of : {start last : World} → Chain last start → RunTo start last
+run_of chain = record {
+  run = record {
+    calls = many chain;
+    world = world_at chain;
+    call = call_at chain;
+    answer = answer_at chain;
+    opens = first chain;
+    steps = λ i lt. let next : suc i ≡ i + 1 = omega arith in
+        subst (λ m. Step bin_weights (world_at chain i) (call_at chain i) (answer_at chain i) (world_at chain m)) next (step_at chain i lt);
+  };
+  ends = at_end chain;
+}
+
+pub run_to : {number : ℕ} {start last : World} {lines : List (List ℕ)} {refusals : List Refusal} → Plays number start lines refusals last → RunTo start last
+run_to plays = run_of (of_lines plays)
