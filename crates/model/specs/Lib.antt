@@ -1,5 +1,6 @@
 pub mod Tables
 pub mod Halls
+pub mod Kinds
 pub mod Answers
 pub mod Issuing
 pub mod Beginning

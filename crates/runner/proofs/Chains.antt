@@ -6,7 +6,7 @@ use Rattle.model.specs.Halls.{World}
 use Rattle.model.specs.Answers.{Answer, done}
 use Rattle.model.specs.Calls.{Call, redeem, Step}
 use Rattle.runner.specs.declared.fault.ScriptFault.{ScriptFault}
-use Rattle.runner.specs.Kinds.{bin_weights}
+use Rattle.model.specs.Kinds.{bin_weights}
 use Rattle.runner.specs.Asks.{Asks}
 use Rattle.runner.specs.Plays.{Does, stops, goes_on, Plays, ended, line}
 use Rattle.runner.specs.Outputs.{RunTo}

@@ -1,5 +1,5 @@
 -- What an opening answers, from what each of its calls answers. Assumes nothing.
-use Rattle.std.proofs.Common.{◌≡◌, ℕ, Bool, true, is_some, Some, None, Ok, Err, Option, Result, refl, sym, ap, ◌∙◌}
+use Rattle.std.proofs.Common.{◌≡◌, is_some, Some, None, Ok, Err, Option, Result, sym, ap, ◌∙◌}
 use Rattle.std.specs.Option.{ok_or}
 use Rattle.std.proofs.lemmas.Bool.{true≢false}
 use Rattle.kinds.specs.declared.bin_weight.BinWeight.{BinWeight}
@@ -15,10 +15,8 @@ use Rattle.register.specs.declared.setup.Setup.{Setup}
 use Rattle.register.specs.Setups.{Settings, set_up}
 use Rattle.register.specs.Openings.{Lent, admitted, opened, opening_with, refused_by}
 use Rattle.register.specs.Views.{settings, settings_or}
-use Rattle.runner.specs.declared.fault.ScriptFault.{ScriptFault}
 use Rattle.runner.specs.declared.fault.ScriptFault.TheVariants.{Hall as OfHall}
 use Rattle.runner.specs.Openings.{marks, marked, opened_if, opened_as, valued_as, opening_over}
-use Rattle.runner.specs.Opened.{settings_if}
 use Rattle.runner.proofs.Steps.{ok_same, ok_err}
 
 -- a value that was made is that of these grams and this lot

@@ -1,5 +1,5 @@
 -- What the calls of a line do, from what each call answers and leaves. Assumes nothing.
-use Rattle.std.proofs.Common.{◌≡◌, ℕ, true, false, cond, Some, None, Ok, Err, Option, Result, IsErrAnd, refl, sym, ap, ◌∙◌, subst}
+use Rattle.std.proofs.Common.{◌≡◌, ℕ, true, false, Some, None, Ok, Err, Option, Result, IsErrAnd, sym, ap, ◌∙◌, subst}
 use Rattle.std.specs.Option.{option_map, ok_or}
 use Rattle.std.specs.Result.{result_err, is_ok}
 use Rattle.std.proofs.lemmas.Bool.{cond-true, cond-false, true≢false}
@@ -12,13 +12,13 @@ use Rattle.script.specs.declared.command.Command.TheVariants.{SetUp as Sets}
 use Rattle.halls.specs.declared.fault.HallFault.{HallFault}
 use Rattle.halls.specs.declared.fault.HallFault.TheVariants.{NotItsSlip}
 use Rattle.model.specs.Halls.{World}
-use Rattle.model.specs.Answers.{Answer, slip, refused}
+use Rattle.model.specs.Answers.{slip, refused}
 use Rattle.model.specs.Calls.{Call, Step, begin_write, redeem}
 use Rattle.register.specs.declared.slip.Slip.{Slip}
 use Rattle.register.specs.Worlds.{done_or, slip_or}
 use Rattle.runner.specs.declared.fault.ScriptFault.{ScriptFault}
 use Rattle.runner.specs.declared.fault.ScriptFault.TheVariants.{Unreadable, Kind, Hall}
-use Rattle.runner.specs.Kinds.{bin_weights}
+use Rattle.model.specs.Kinds.{bin_weights}
 use Rattle.runner.specs.Asks.{Asks, calls, over, asks, ending, lodging, lodging_again, spending, redeeming, writing}
 use Rattle.runner.specs.Plays.{Does, stops, goes_on}
 use Rattle.runner.specs.Slips.{holds_its_slip}

@@ -1,5 +1,5 @@
 -- A turn over the lines of a script: what is so of the lines that are left is so of those from the line that is taken on. Assumes nothing.
-use Rattle.std.proofs.Common.{◌≡◌, ℕ, suc, ◌+◌, List, [], ◌∷◌, ◌++◌, length, Some, None, Option, refl, sym, ap, ◌∙◌, subst, append_assoc, append-nil, arith}
+use Rattle.std.proofs.Common.{◌≡◌, ℕ, ◌+◌, List, [], ◌∷◌, ◌++◌, Some, None, Option, sym, ap, ◌∙◌, subst, append_assoc, append-nil, arith}
 use Rattle.refusals.specs.declared.Refusal.{Refusal}
 use Rattle.refusals.specs.Places.{moved}
 use Rattle.fields.specs.Parts.{fields}
@@ -13,7 +13,7 @@ use Rattle.runner.specs.Asks.{asks}
 use Rattle.runner.specs.Plays.{Does, Plays, ended, line, told}
 use Rattle.runner.specs.Texts.{Numbered, set_up_of}
 use Rattle.runner.specs.Outputs.{unread}
-use Rattle.runner.specs.Turns.{Found, Searched, Played}
+use Rattle.runner.specs.Turns.{Searched, Played}
 
 -- the lines from `first` on, where those of `rest` are left
 module _ (now rest : Numbered) (text : List ℕ) (lines : now.lines ≡ text ∷ rest.lines) (number : rest.number ≡ now.number + 1) where

@@ -1,5 +1,5 @@
 -- What a line asks of a hall: a call, and by its answer the next one or nothing more.
-use Rattle.std.specs.Prelude.{ℕ, ℤ, cond, Some, None, Option}
+use Rattle.std.specs.Prelude.{ℕ, cond, Some, None, Option}
 use Rattle.kinds.specs.declared.bin_weight.BinWeight.{BinWeight}
 use Rattle.kinds.specs.declared.fault.KindFault.TheVariants.{NoValue}
 use Rattle.kinds.specs.BinWeights.{weight}

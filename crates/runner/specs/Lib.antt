@@ -1,6 +1,5 @@
 pub mod Faults
 pub mod Slips
-pub mod Kinds
 pub mod Asks
 pub mod Plays
 pub mod Views

@@ -1,5 +1,5 @@
 -- What marking and opening answer and leave, and the memory in which a script's tables lie.
-use Rattle.std.specs.Prelude.{◌≡◌, ℕ, ◌*◌, length, replicate, Ok, Err, Result}
+use Rattle.std.specs.Prelude.{◌≡◌, ◌*◌, length, replicate, Ok, Err, Result}
 use Rattle.std.specs.Vec.{vec_items, vec_len}
 use Rattle.kinds.specs.declared.bin_weight.BinWeight.{BinWeight}
 use Rattle.stores.specs.Saved.{Shelf}

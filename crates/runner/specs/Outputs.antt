@@ -11,7 +11,7 @@ use Rattle.model.specs.Runs.{Run}
 use Rattle.model.specs.Promise.{Promised}
 use Rattle.runner.specs.declared.fault.ScriptFault.{ScriptFault}
 use Rattle.runner.specs.declared.fault.ScriptFault.TheVariants.{Unreadable}
-use Rattle.runner.specs.Kinds.{bin_weights}
+use Rattle.model.specs.Kinds.{bin_weights}
 use Rattle.runner.specs.Texts.{Numbered, set_up_of}
 use Rattle.runner.specs.Openings.{opening}
 use Rattle.runner.specs.Plays.{Plays, told}

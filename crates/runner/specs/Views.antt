@@ -14,7 +14,7 @@ use Rattle.register.specs.Worlds.{world_of}
 use Rattle.runner.specs.declared.fault.ScriptFault.{ScriptFault}
 use Rattle.runner.specs.declared.fault.ScriptFault.TheVariants.{Hall}
 use Rattle.runner.specs.declared.running.Running.{Running}
-use Rattle.runner.specs.Kinds.{bin_weights}
+use Rattle.model.specs.Kinds.{bin_weights}
 use Rattle.runner.specs.Slips.{holds_its_slip}
 use Rattle.runner.specs.Asks.{calls, over, redeeming}
 use Rattle.runner.specs.Plays.{Does}

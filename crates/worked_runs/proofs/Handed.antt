@@ -12,7 +12,7 @@ use Rattle.model.specs.Order.Operation.{a_write}
 use Rattle.model.specs.Response.{Handed, Enough, AnswersTo}
 use Rattle.model.specs.Response.AnswersTo.{to_write}
 use Rattle.worked_runs.specs.Lists.{calls_of, call_at, world_at}
-use Rattle.worked_runs.specs.Openings.{bin_weights}
+use Rattle.model.specs.Kinds.{bin_weights}
 use Rattle.worked_runs.specs.FullScript.{script, start, new_weight, new_pair}
 use Rattle.worked_runs.proofs.Lists.{run_of}
 use Rattle.worked_runs.proofs.Tests.{all_from}

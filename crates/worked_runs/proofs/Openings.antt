@@ -5,7 +5,8 @@ use Rattle.std.proofs.lemmas.List.{get_or-replicate}
 use Rattle.model.specs.Halls.{no_seat, has_its_tables}
 use Rattle.model.specs.Issuing.{is_right_set, has_too_many_marked}
 use Rattle.model.specs.Runs.{Opened, first_card, first_seat}
-use Rattle.worked_runs.specs.Openings.{bin_weights, opening_weight, rules_for, opened_hall}
+use Rattle.model.specs.Kinds.{bin_weights}
+use Rattle.worked_runs.specs.Openings.{opening_weight, rules_for, opened_hall}
 
 module _ (replicas clients marked : ℕ) where
   pub opened : replicas ≤ 64 → clients ≤ 32

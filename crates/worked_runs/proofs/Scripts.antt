@@ -4,7 +4,8 @@ use Rattle.wire.specs.Sets.{member, inserted}
 use Rattle.model.specs.Order.{Operation, collects}
 use Rattle.model.specs.Order.Operation.{a_read}
 use Rattle.worked_runs.specs.Lists.{calls_of, world_at}
-use Rattle.worked_runs.specs.Openings.{bin_weights, opening_weight}
+use Rattle.model.specs.Kinds.{bin_weights}
+use Rattle.worked_runs.specs.Openings.{opening_weight}
 use Rattle.worked_runs.specs.Short as short
 use Rattle.worked_runs.specs.Short.{ShortRun}
 use Rattle.worked_runs.specs.Full.{FullRun}

@@ -16,7 +16,8 @@ use Rattle.model.specs.Halls.{World}
 use Rattle.model.specs.Answers.{done, slip, pair, refused}
 use Rattle.model.specs.Calls.{issue, begin_read, begin_write, deliver, collect, meddle}
 use Rattle.worked_runs.specs.Lists.{Line, line, Answered, last_world}
-use Rattle.worked_runs.specs.Openings.{rules_for, opened_world, bin_weights}
+use Rattle.model.specs.Kinds.{bin_weights}
+use Rattle.worked_runs.specs.Openings.{rules_for, opened_world}
 use Rattle.worked_runs.specs.Short.{client_1}
 
 -- five replicas, two clients, replica 3 marked

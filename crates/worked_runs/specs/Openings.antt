@@ -1,15 +1,11 @@
 -- An opening with tables of a few places, for one faulty replica and the bin weight.
 use Rattle.std.specs.Prelude.{ℕ, false, cond, refl, [], ◌∷◌, replicate, pos, Some, None, nat_lt}
 use Rattle.kinds.specs.declared.bin_weight.BinWeight.{BinWeight}
-use Rattle.kinds.specs.BinWeights.{weight_word, weight_value}
+use Rattle.kinds.specs.BinWeights.{weight_word}
 use Rattle.rules.specs.declared.rules.Rules.{Rules}
 use Rattle.rules.specs.Genuine.{first_configuration}
-use Rattle.model.specs.Halls.{Hall, World, Kind, no_entry, no_operation, no_configuration}
+use Rattle.model.specs.Halls.{Hall, World, no_entry, no_operation, no_configuration}
 use Rattle.model.specs.Runs.{first_card, first_seat}
-
--- the bin weight as a record kind
-abbrev pub bin_weights : Kind BinWeight
-bin_weights = record { number = 1; word = weight_word; value = weight_value }
 
 -- what the register opens with: 0 g, lot 412
 abbrev pub opening_weight : BinWeight

@@ -14,7 +14,8 @@ use Rattle.model.specs.Answers.{done, slip, pair, refused}
 use Rattle.model.specs.Calls.{begin_read, deliver, collect}
 use Rattle.model.specs.Runs.{Opened}
 use Rattle.worked_runs.specs.Lists.{RunOf, Line, line, calls_of, Answered, last_world}
-use Rattle.worked_runs.specs.Openings.{bin_weights, opening_weight, rules_for, opened_world}
+use Rattle.model.specs.Kinds.{bin_weights}
+use Rattle.worked_runs.specs.Openings.{opening_weight, rules_for, opened_world}
 
 -- four replicas, one client, nobody marked
 abbrev pub rules : Rules

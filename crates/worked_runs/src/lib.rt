@@ -3,7 +3,7 @@
 
 ghost use Rattle.std.specs.Prelude.{◌≡◌};
 ghost use Rattle.worked_runs.specs.Lists.{EveryListRuns, calls_of};
-ghost use Rattle.worked_runs.specs.Openings.{bin_weights};
+ghost use Rattle.model.specs.Kinds.{bin_weights};
 ghost use Rattle.worked_runs.specs.Short.{ShortRun};
 ghost use Rattle.worked_runs.specs.Full.{FullRun};
 ghost use Rattle.worked_runs.specs.FullScript.{FullAnswers, start, script};

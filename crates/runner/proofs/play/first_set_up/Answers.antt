@@ -4,7 +4,7 @@ use Rattle.std.specs.Vec.{vec_items}
 use Rattle.refusals.specs.Places.{moved}
 use Rattle.runner.specs.declared.fault.ScriptFault.TheVariants.{Unreadable}
 use Rattle.runner.specs.Faults.{script_refusal}
-use Rattle.runner.specs.Left.{left, lines_left}
+use Rattle.runner.specs.Left.{left}
 use Rattle.runner.specs.Turns.{Found}
 use Rattle.runner.proofs.Turns.{searched_on, found_here, searched_all}
 use Rattle.runner.proofs.play.first_set_up.Goals as goal
@@ -26,11 +26,12 @@ loop-line-preserved c =
     let next = left c.next.new.self.a c.next.new.self.b.start in
     let follows : next.number ≡ now.number + 1 = c.in-Some.ensures.steps.1.1 ∙ ap (λ n. n + 1) c.in-Some.ensures.steps.1.0 in
     let so_far = vec_items c.loop-line.refusals in
-    let told = c.refusal_of.ensures ∙ ap (moved (script_refusal Unreadable)) c.in-Some.ensures.steps.1.0 in
-    (omega (arith, c.loop-line.invariant.0, follows, ap length c.in-Some.ensures.steps.0),
-    λ found last new s. c.loop-line.invariant.1 found last new
-    (searched_on now next c.in-Some.line.now c.in-Some.ensures.steps.0 follows so_far _ new found last
-    (sym c.set_up.ensures ∙ c.in_default-set_up.is) (c.in_ok-push.ensures.items ∙ ap (λ x. so_far ++ (x ∷ [])) told) s))
+    let told = c.refusal_of.ensures ∙ ap (moved (script_refusal Unreadable)) c.in-Some.ensures.steps.1.0 in (
+      omega (arith, c.loop-line.invariant.0, follows, ap length c.in-Some.ensures.steps.0),
+      λ found last new s. c.loop-line.invariant.1 found last new
+          (searched_on now next c.in-Some.line.now c.in-Some.ensures.steps.0 follows so_far _ new found last
+          (sym c.set_up.ensures ∙ c.in_default-set_up.is) (c.in_ok-push.ensures.items ∙ ap (λ x. so_far ++ (x ∷ [])) told) s),
+    )
 
 pub returns : goal.returns
 returns c =

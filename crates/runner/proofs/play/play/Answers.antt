@@ -1,5 +1,5 @@
 -- Roll and log are what the lines have left.
-use Rattle.std.proofs.Common.{◌≡◌, length, IfOk, string_bytes, sym, ap, ◌∙◌, subst}
+use Rattle.std.proofs.Common.{◌≡◌, length, IfOk, string_bytes, ap, ◌∙◌, subst}
 use Rattle.std.specs.Vec.{vec_items}
 use Rattle.script.specs.Reports.{printed}
 use Rattle.sealers.specs.Books.{book_desk}
@@ -15,8 +15,8 @@ returns-in_ok-run_lines-in-Ok-open c =
     let fresh = c.in_ok-memory.ensures in
     let seats = seats_as c.min-clients.result _ c.args.asked.clients c.as_mut_slice-4.result.now c.min-clients.ensures (c.len.ensures ∙ fresh.many) (c.as_mut_slice-4.ensures.value ∙ fresh.seats) in
     let tables = lent_as _ c.args.asked.clients c.new-2.ensures.held (c.new-2.ensures.behind ∙ c.as_mut_slice.ensures.value ∙ fresh.post)
-        c.new-3.ensures.held (c.new-3.ensures.behind ∙ c.as_mut_slice-2.ensures.value ∙ fresh.log)
-        c.new-4.ensures.held (c.new-4.ensures.behind ∙ c.as_mut_slice-3.ensures.value ∙ fresh.roll) seats in
+    c.new-3.ensures.held (c.new-3.ensures.behind ∙ c.as_mut_slice-2.ensures.value ∙ fresh.log)
+    c.new-4.ensures.held (c.new-4.ensures.behind ∙ c.as_mut_slice-3.ensures.value ∙ fresh.roll) seats in
     let book = c.in-Ok.ensures in
     let seals = seals_fresh c.in-Ok.sealer book.2 book.3 (ap length (book.1 ∙ c.as_mut_slice-5.ensures.value) ∙ fresh.rows) in
     let is = c.in-Ok-open.ensures.answer ∙ opening_as _ _ (book_desk c.in-Ok.sealer) c.args.asked tables (cabinet_as c.new-store.result c.new-store.ensures) seals in
@@ -31,8 +31,8 @@ returns-in-Err c =
     let fresh = c.in_ok-memory.ensures in
     let seats = seats_as c.min-clients.result _ c.args.asked.clients c.as_mut_slice-4.result.now c.min-clients.ensures (c.len.ensures ∙ fresh.many) (c.as_mut_slice-4.ensures.value ∙ fresh.seats) in
     let tables = lent_as _ c.args.asked.clients c.new-2.ensures.held (c.new-2.ensures.behind ∙ c.as_mut_slice.ensures.value ∙ fresh.post)
-        c.new-3.ensures.held (c.new-3.ensures.behind ∙ c.as_mut_slice-2.ensures.value ∙ fresh.log)
-        c.new-4.ensures.held (c.new-4.ensures.behind ∙ c.as_mut_slice-3.ensures.value ∙ fresh.roll) seats in
+    c.new-3.ensures.held (c.new-3.ensures.behind ∙ c.as_mut_slice-2.ensures.value ∙ fresh.log)
+    c.new-4.ensures.held (c.new-4.ensures.behind ∙ c.as_mut_slice-3.ensures.value ∙ fresh.roll) seats in
     let book = c.in-Ok.ensures in
     let seals = seals_fresh c.in-Ok.sealer book.2 book.3 (ap length (book.1 ∙ c.as_mut_slice-5.ensures.value) ∙ fresh.rows) in
     let is = c.in-Err.ensures.answer ∙ opening_as _ _ (book_desk c.in-Ok.sealer) c.args.asked tables (cabinet_as c.new-store.result c.new-store.ensures) seals in

@@ -2,7 +2,7 @@ use Rattle.std.proofs.Common.{◌≡◌, ◌++◌, List}
 use Rattle.std.specs.Vec.{vec_items}
 use Rattle.refusals.specs.declared.Refusal.{Refusal}
 use Rattle.runner.specs.Left.{left}
-use Rattle.runner.specs.Texts.{Numbered, Countable}
+use Rattle.runner.specs.Texts.{Countable}
 use Rattle.runner.specs.Outputs.{unread}
 use Rattle.runner.proofs.play.refuse_lines.Given as goal
 

@@ -1,5 +1,5 @@
 -- The lines of the script are searched for a set-up, and what follows it is played.
-use Rattle.std.proofs.Common.{◌≡◌, take, [], Some, None, IfOk, string_bytes, sym, ap, ◌∙◌, subst}
+use Rattle.std.proofs.Common.{take, [], Some, None, string_bytes, ap, ◌∙◌, subst}
 use Rattle.std.proofs.lemmas.Result.{IfOk-weaker}
 use Rattle.std.specs.Vec.{vec_items}
 use Rattle.script.specs.Reports.{printed}
@@ -31,7 +31,7 @@ returns-in-Some c =
     let found = subst (λ f. Searched lines (vec_items c.new-refusals.result) f next new) c.in-Some.is c.in_ok-number.ensures in
     let alone = subst (λ old. Searched lines old (Some (c.in-Some.number, c.in-Some.asked)) next new) c.new-refusals.ensures.items found in
     IfOk-weaker c.play.result _ _ (λ s does. subst (λ t. Shows (script_lines t) (string_bytes s)) read.1
-        (shows (script_lines (take c.min.result text)) lines c.numbered-lines.ensures c.in-Some.number c.in-Some.asked next new (string_bytes s) alone does)) c.play.ensures
+    (shows (script_lines (take c.min.result text)) lines c.numbered-lines.ensures c.in-Some.number c.in-Some.asked next new (string_bytes s) alone does)) c.play.ensures
 
 pub returns-in-None : goal.returns-in-None
 returns-in-None c =
@@ -43,4 +43,4 @@ returns-in-None c =
     let none = subst (λ f. Searched lines (vec_items c.new-refusals.result) f next new) c.in-None.is c.in_ok-number.ensures in
     let alone = subst (λ old. Searched lines old None next new) c.new-refusals.ensures.items none in
     IfOk-weaker c.report.result _ _ (λ s shown. subst (λ t. Shows (script_lines t) (string_bytes s)) read.1
-        (shows_none (script_lines (take c.min.result text)) lines c.numbered-lines.ensures next new (string_bytes s) alone (shown ∙ ap (printed [] []) c.as_slice.ensures.value))) c.report.ensures
+    (shows_none (script_lines (take c.min.result text)) lines c.numbered-lines.ensures next new (string_bytes s) alone (shown ∙ ap (printed [] []) c.as_slice.ensures.value))) c.report.ensures

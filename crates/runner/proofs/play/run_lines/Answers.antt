@@ -1,5 +1,5 @@
 -- Each turn takes a line and plays it, and puts down what was refused.
-use Rattle.std.proofs.Common.{◌≡◌, ◌+◌, [], ◌∷◌, ◌++◌, length, Some, None, Ok, Err, sym, ap, ◌∙◌, subst, append-nil, ⊎_elim, arith}
+use Rattle.std.proofs.Common.{◌≡◌, ◌+◌, [], ◌∷◌, ◌++◌, length, Some, None, sym, ap, ◌∙◌, subst, append-nil, ⊎_elim, arith}
 use Rattle.std.specs.Result.{result_err}
 use Rattle.std.specs.Vec.{vec_items}
 use Rattle.refusals.specs.Places.{moved}
@@ -21,11 +21,12 @@ loop-line-preserved-in-Continue-1 c =
     let so_far = vec_items c.loop-line.refusals in
     let before = world c.loop-line.running in
     let told = c.refusal_of.ensures ∙ ap (moved (script_refusal c.in-Err.fault)) c.in-Some.ensures.steps.1.0 in
-    let does = subst (λ r. Does before (asks before.hall (command_in (fields c.in-Some.line.now))) (result_err r) (world c.take.new.self)) c.in-Err.is c.take.ensures in
-    (omega (arith, c.loop-line.invariant.0, follows, ap length c.in-Some.ensures.steps.0),
-    λ after new p. c.loop-line.invariant.1 after new
-    (played_on now next c.in-Some.line.now c.in-Some.ensures.steps.0 follows before (world c.take.new.self) after (Some c.in-Err.fault) so_far _ new
-    does (c.in_ok-push.ensures.items ∙ ap (λ x. so_far ++ (x ∷ [])) told) p))
+    let does = subst (λ r. Does before (asks before.hall (command_in (fields c.in-Some.line.now))) (result_err r) (world c.take.new.self)) c.in-Err.is c.take.ensures in (
+      omega (arith, c.loop-line.invariant.0, follows, ap length c.in-Some.ensures.steps.0),
+      λ after new p. c.loop-line.invariant.1 after new
+          (played_on now next c.in-Some.line.now c.in-Some.ensures.steps.0 follows before (world c.take.new.self) after (Some c.in-Err.fault) so_far _ new
+          does (c.in_ok-push.ensures.items ∙ ap (λ x. so_far ++ (x ∷ [])) told) p),
+    )
 
 pub loop-line-preserved : goal.loop-line-preserved
 loop-line-preserved c =
@@ -34,11 +35,12 @@ loop-line-preserved c =
     let follows : next.number ≡ now.number + 1 = c.in-Some.ensures.steps.1.1 ∙ ap (λ n. n + 1) c.in-Some.ensures.steps.1.0 in
     let so_far = vec_items c.loop-line.refusals in
     let before = world c.loop-line.running in
-    let does = subst (λ r. Does before (asks before.hall (command_in (fields c.in-Some.line.now))) (result_err r) (world c.take.new.self)) c.in_default.is c.take.ensures in
-    (omega (arith, c.loop-line.invariant.0, follows, ap length c.in-Some.ensures.steps.0),
-    λ after new p. c.loop-line.invariant.1 after new
-    (played_on now next c.in-Some.line.now c.in-Some.ensures.steps.0 follows before (world c.take.new.self) after None so_far so_far new
-    does (sym (append-nil so_far)) p))
+    let does = subst (λ r. Does before (asks before.hall (command_in (fields c.in-Some.line.now))) (result_err r) (world c.take.new.self)) c.in_default.is c.take.ensures in (
+      omega (arith, c.loop-line.invariant.0, follows, ap length c.in-Some.ensures.steps.0),
+      λ after new p. c.loop-line.invariant.1 after new
+          (played_on now next c.in-Some.line.now c.in-Some.ensures.steps.0 follows before (world c.take.new.self) after None so_far so_far new
+          does (sym (append-nil so_far)) p),
+    )
 
 pub returns : goal.returns
 returns c =

@@ -3,7 +3,7 @@ use Rattle.std.specs.Vec.{vec_items}
 use Rattle.refusals.specs.declared.Refusal.{Refusal}
 use Rattle.model.specs.Halls.{World}
 use Rattle.runner.specs.Left.{left}
-use Rattle.runner.specs.Texts.{Numbered, Countable}
+use Rattle.runner.specs.Texts.{Countable}
 use Rattle.runner.specs.Turns.{Played}
 use Rattle.runner.specs.Views.{world}
 use Rattle.runner.proofs.play.run_lines.Given as goal

@@ -1,7 +1,6 @@
 -- The client has just begun this operation.
-use Rattle.std.proofs.Common.{None, Some, refl}
+use Rattle.std.proofs.Common.{None, refl}
 use Rattle.kinds.specs.declared.bin_weight.BinWeight.{BinWeight}
-use Rattle.kinds.specs.BinWeights.{weight_word}
 use Rattle.stores.specs.Cabinets.{cabinet_shelf}
 use Rattle.sealers.specs.Books.{book_desk}
 use Rattle.register.specs.Worlds.{world_of}

@@ -1,5 +1,5 @@
 -- The client has just begun this operation.
-use Rattle.std.proofs.Common.{None, Some, refl}
+use Rattle.std.proofs.Common.{Some, refl}
 use Rattle.kinds.specs.declared.bin_weight.BinWeight.{BinWeight}
 use Rattle.kinds.specs.BinWeights.{weight_word}
 use Rattle.stores.specs.Cabinets.{cabinet_shelf}

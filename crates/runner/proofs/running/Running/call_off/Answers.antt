@@ -8,7 +8,6 @@ use Rattle.model.specs.Calls.{call_off}
 use Rattle.register.specs.Worlds.{world_of}
 use Rattle.runner.specs.Slips.{HasSlip}
 use Rattle.runner.specs.Plays.{stops, goes_on}
-use Rattle.runner.specs.Kinds.{bin_weights}
 use Rattle.runner.specs.Views.{world, Lodges}
 use Rattle.runner.proofs.Slips.{call_off_refused}
 use Rattle.runner.proofs.Steps.{spends, spends_not, as_kept, as_passed}

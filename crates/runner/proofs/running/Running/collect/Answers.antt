@@ -8,7 +8,7 @@ use Rattle.model.specs.Calls.{collect}
 use Rattle.register.specs.Worlds.{world_of}
 use Rattle.runner.specs.Slips.{HasSlip}
 use Rattle.runner.specs.Plays.{stops, goes_on}
-use Rattle.runner.specs.Kinds.{bin_weights}
+use Rattle.model.specs.Kinds.{bin_weights}
 use Rattle.runner.specs.Views.{world, Lodges}
 use Rattle.runner.proofs.Slips.{collect_refused}
 use Rattle.runner.proofs.Steps.{spends, spends_not, as_kept, as_passed}

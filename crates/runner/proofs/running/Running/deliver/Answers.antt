@@ -1,7 +1,6 @@
 -- One call, and its answer is the line's. What it has sealed is read off the seat that it leaves.
 use Rattle.std.proofs.Common.{ap, subst}
 use Rattle.kinds.specs.declared.bin_weight.BinWeight.{BinWeight}
-use Rattle.stores.specs.Cabinets.{cabinet_shelf}
 use Rattle.sealers.specs.Books.{book_desk}
 use Rattle.model.specs.Answers.{Outcome}
 use Rattle.model.specs.Calls.{GenuineThen, text_if_stamped}

@@ -5,7 +5,7 @@ use Rattle.std.proofs.lemmas.Int.{ints}
 use Rattle.kinds.specs.declared.fault.KindFault.TheVariants.{NoValue}
 use Rattle.kinds.specs.BinWeights.{weight}
 use Rattle.runner.specs.Views.{world}
-use Rattle.runner.proofs.Steps.{valueless, valued}
+use Rattle.runner.proofs.Steps.{valueless}
 use Rattle.runner.proofs.running.Running.write.Goals as goal
 
 pub returns-in_err-value : goal.returns-in_err-value
