@@ -1,7 +1,7 @@
 // The begin and the step of a client.
-use crate::book::Book;
 use crate::refusals::{Objection, Refusal, Stepper, require};
 use crate::rules::Rules;
+use crate::sealer::Sealer;
 use crate::wire::{Configuration, Entry, Kind, Pair, Party, Set, Stamp, has_party, with_party};
 
 // What a round of reading has heard: the highest pair, of equal stamps the first.
@@ -143,7 +143,7 @@ impl Line {
         Ok(turn)
     }
 
-    pub fn step(self, rules: &Rules, book: &mut Book, entry: &Entry) -> Result<Turn, Refusal> {
+    pub fn step(self, rules: &Rules, book: &mut impl Sealer, entry: &Entry) -> Result<Turn, Refusal> {
         match Kind::from_number(entry.kind) {
             Some(Kind::Pair) => self.heard_pair(rules, book, entry),
             Some(Kind::Ack) => self.heard_ack(rules, entry),
@@ -168,7 +168,7 @@ impl Line {
         })
     }
 
-    fn heard_pair(self, rules: &Rules, book: &mut Book, entry: &Entry) -> Result<Turn, Refusal> {
+    fn heard_pair(self, rules: &Rules, book: &mut impl Sealer, entry: &Entry) -> Result<Turn, Refusal> {
         let heard = match self.stage {
             Stage::Reading(heard) if entry.round == self.round => heard,
             _ => return Err(object(Objection::NotAwaited)),
@@ -197,7 +197,7 @@ impl Line {
         }
     }
 
-    fn stamp(self, book: &mut Book, highest: Pair, word: u64) -> Result<Turn, Refusal> {
+    fn stamp(self, book: &mut impl Sealer, highest: Pair, word: u64) -> Result<Turn, Refusal> {
         let last = self.last_count.max(highest.stamp.count);
         let count = last.checked_add(1).ok_or(Refusal::NumberTooHigh)?;
         self.next_round()?;
@@ -232,7 +232,7 @@ impl Line {
         }
     }
 
-    fn reconfigured(self, rules: &Rules, book: &Book, new: Configuration) -> Result<Turn, Refusal> {
+    fn reconfigured(self, rules: &Rules, book: &impl Sealer, new: Configuration) -> Result<Turn, Refusal> {
         Stepper::Client.require(new.epoch > self.configuration.epoch, Objection::NotNewer)?;
         let is_genuine = rules.is_configuration_genuine(book, new);
         Stepper::Client.require(is_genuine, Objection::NotGenuine)?;

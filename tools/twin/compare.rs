@@ -12,6 +12,8 @@ mod replica;
 mod rules;
 mod script;
 mod scripts;
+mod sealer;
+mod store;
 mod weights;
 mod wire;
 

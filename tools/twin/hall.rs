@@ -1,15 +1,21 @@
 // The set-up, the marking of liars, the opening, and the nine calls of a hall.
 use crate::book::Book;
 use crate::client::{Event, Line, Stage};
-use crate::refusals::{Refusal, require};
+use crate::refusals::{Objection, Refusal, Stepper, require};
 use crate::replica::{Card, ReplicaStep};
 use crate::rules::Rules;
+use crate::sealer::Sealer;
+use crate::store::{Cabinet, Store};
 use crate::weights::Weight;
 use crate::wire::{Configuration, Entry, Kind, Pair, Party, Set, Stamp, has};
 
-const POST: usize = 512;
-const LOG: usize = 64;
-const ROLL: usize = 16;
+// How many places the tables have.
+#[derive(Clone, Copy)]
+pub struct Places {
+    pub post: usize,
+    pub log: usize,
+    pub roll: usize,
+}
 
 pub struct SetUp {
     f: u32,
@@ -47,22 +53,31 @@ impl SetUp {
         Ok(())
     }
 
-    pub fn open(self, opening: Weight) -> Hall {
+    pub fn open<L: Sealer, S: Store>(
+        self,
+        opening: Weight,
+        places: Places,
+        book: L,
+        mut cabinet: S,
+    ) -> Result<Hall<L, S>, Refusal> {
         let rules = self.rules(opening);
         let first = rules.first;
         let clients = 1..=rules.clients;
-        let replicas = 0..rules.replicas;
-        Hall {
+        for replica in 0..rules.replicas {
+            cabinet.save(replica, Card::new(replica, &rules))?;
+        }
+        Ok(Hall {
             rules,
             marked: self.marked,
-            book: Book::new(),
+            places,
+            book,
             post: Vec::new(),
             log: Vec::new(),
             roll: vec![first],
             seats: clients.map(|client| Seat::new(client, first)).collect(),
-            cabinet: replicas.map(|replica| Card::new(replica, &rules)).collect(),
+            cabinet,
             moment: 0,
-        }
+        })
     }
 
     fn rules(&self, opening: Weight) -> Rules {
@@ -131,19 +146,21 @@ impl Seat {
 // A slip comes back with each refusal.
 pub type Returned = (Slip, Refusal);
 
-pub struct Hall {
+// Over a sealer and a store: a book and a cabinet where no others are named.
+pub struct Hall<L = Book, S = Cabinet> {
     pub rules: Rules,
     pub marked: Set,
-    book: Book,
+    places: Places,
+    pub book: L,
     pub post: Vec<Entry>,
     pub log: Vec<Operation>,
     pub roll: Vec<Configuration>,
     pub seats: Vec<Seat>,
-    pub cabinet: Vec<Card>,
+    pub cabinet: S,
     moment: u64,
 }
 
-impl Hall {
+impl<L: Sealer, S: Store> Hall<L, S> {
     pub fn issue(&mut self, set: Set) -> Result<(), Refusal> {
         let Rules { f, replicas, .. } = self.rules;
         require(is_full_set(f, replicas, set), Refusal::WrongSet)?;
@@ -152,7 +169,7 @@ impl Hall {
             Refusal::TooManyMarked,
         )?;
         require(
-            self.roll.len() < ROLL && self.post.len() < POST,
+            self.roll.len() < self.places.roll && self.post.len() < self.places.post,
             Refusal::TableFull,
         )?;
         let configuration = self.book.seal_configuration(self.roll.len() as u32, set)?;
@@ -175,7 +192,7 @@ impl Hall {
         let seat = &mut self.seats[place.ok_or(Refusal::NoSuch)?];
         require(seat.line.is_idle(), Refusal::Busy)?;
         require(
-            self.log.len() < LOG && self.post.len() < POST,
+            self.log.len() < self.places.log && self.post.len() < self.places.post,
             Refusal::TableFull,
         )?;
         let has_seal = self.book.has_seal_left(Party::Client(seat.line.client));
@@ -200,7 +217,7 @@ impl Hall {
         let number = usize::try_from(number).map_err(|_| Refusal::NoSuch)?;
         let entry = *self.post.get(number).ok_or(Refusal::NoSuch)?;
         let receiver = self.party(party)?;
-        require(self.post.len() < POST, Refusal::TableFull)?;
+        require(self.post.len() < self.places.post, Refusal::TableFull)?;
         require(fits(&entry, receiver), Refusal::DoesNotFit)?;
         let posted = match receiver {
             Party::Client(client) => self.step_client(client, &entry)?,
@@ -236,15 +253,17 @@ impl Hall {
     }
 
     fn step_replica(&mut self, replica: u8, entry: &Entry) -> Result<Option<Entry>, Refusal> {
-        let place = &mut self.cabinet[usize::from(replica)];
+        let none = Refusal::Step(Stepper::Replica, Objection::NotMember);
         let step = ReplicaStep {
             rules: &self.rules,
             book: &self.book,
             replica,
-            card: *place,
+            card: self.cabinet.load(replica).ok_or(none)?,
         };
         let (card, posted) = step.take(entry)?;
-        *place = card;
+        if let Some(card) = card {
+            self.cabinet.save(replica, card)?;
+        }
         Ok(posted)
     }
 
@@ -294,7 +313,7 @@ impl Hall {
             Party::Replica(replica) if has(self.marked, replica) => Party::Replica(replica),
             _ => return Err(Refusal::NotMarked),
         };
-        require(self.post.len() < POST, Refusal::TableFull)?;
+        require(self.post.len() < self.places.post, Refusal::TableFull)?;
         self.post.push(Entry {
             sender: liar.number(),
             ..entry

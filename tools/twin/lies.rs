@@ -62,8 +62,8 @@ fn answer(dice: &mut Dice, hall: &Hall, liar: u8, kind: Kind) -> Entry {
 }
 
 fn stock(dice: &mut Dice, hall: &Hall, liar: u8) -> Entry {
-    let place = dice.place(hall.cabinet.len());
-    let epoch = hall.cabinet[place].previous.epoch;
+    let place = dice.place(hall.cabinet.cards.len());
+    let epoch = hall.cabinet.cards[place].previous.epoch;
     let entry = Entry::new(Party::Replica(liar), Kind::Stock).carrying(pair(dice, hall));
     Entry {
         addressee: Party::Replica(place as u8).number(),

@@ -1,7 +1,7 @@
 // The step of a replica.
-use crate::book::Book;
 use crate::refusals::{Objection, Refusal, Stepper, require};
 use crate::rules::Rules;
+use crate::sealer::Sealer;
 use crate::wire::{Configuration, Entry, Kind, Pair, Party, Set, has, has_party, with_party};
 
 #[derive(Clone, Copy)]
@@ -31,24 +31,24 @@ impl Card {
 }
 
 // A step: the card as it is, what came, and what the judgement rests on.
-pub struct ReplicaStep<'a> {
+pub struct ReplicaStep<'a, L> {
     pub rules: &'a Rules,
-    pub book: &'a Book,
+    pub book: &'a L,
     pub replica: u8,
     pub card: Card,
 }
 
-// What a step saves and what it posts.
-type Outcome = Result<(Card, Option<Entry>), Refusal>;
+// What a step saves and what it posts, if anything.
+type Outcome = Result<(Option<Card>, Option<Entry>), Refusal>;
 
-impl ReplicaStep<'_> {
+impl<L: Sealer> ReplicaStep<'_, L> {
     pub fn take(self, entry: &Entry) -> Outcome {
         match Kind::from_number(entry.kind) {
             Some(kind @ (Kind::Read | Kind::Write)) => self.asked(kind, entry),
             Some(Kind::Config) => self.reconfigured(entry.configuration()),
             Some(Kind::Transfer) => self.asked_for_stock(entry),
             Some(Kind::Stock) => self.stocked(entry),
-            Some(Kind::Behind) => Ok((self.card, Some(self.own_configuration()))),
+            Some(Kind::Behind) => Ok((None, Some(self.own_configuration()))),
             Some(Kind::Pair | Kind::Ack) | None => Err(object(Objection::NotAwaited)),
         }
     }
@@ -67,10 +67,10 @@ impl ReplicaStep<'_> {
 
     fn asked(&self, kind: Kind, entry: &Entry) -> Outcome {
         if entry.epoch < self.card.present.epoch {
-            return Ok((self.card, Some(self.own_configuration())));
+            return Ok((None, Some(self.own_configuration())));
         }
         if entry.epoch > self.card.present.epoch {
-            return Ok((self.card, Some(self.own(Kind::Behind).answering(entry))));
+            return Ok((None, Some(self.own(Kind::Behind).answering(entry))));
         }
         Stepper::Replica.require(self.is_member(), Objection::NotMember)?;
         require(self.card.ready, Refusal::NotReady)?;
@@ -79,13 +79,12 @@ impl ReplicaStep<'_> {
                 .own(Kind::Pair)
                 .answering(entry)
                 .carrying(self.card.pair);
-            return Ok((self.card, Some(answer)));
+            return Ok((None, Some(answer)));
         }
         self.require_pair(entry.pair())?;
-        let card = Card {
-            pair: higher(self.card.pair, entry.pair()),
-            ..self.card
-        };
+        let pair = entry.pair();
+        let is_higher = pair.stamp > self.card.pair.stamp;
+        let card = is_higher.then_some(Card { pair, ..self.card });
         Ok((card, Some(self.own(Kind::Ack).answering(entry))))
     }
 
@@ -103,7 +102,7 @@ impl ReplicaStep<'_> {
             pair: self.card.pair,
         };
         let asks = has(new.set, self.replica).then(|| self.own(Kind::Transfer).showing(old));
-        Ok((card, asks))
+        Ok((Some(card), asks))
     }
 
     fn asked_for_stock(&self, entry: &Entry) -> Outcome {
@@ -115,7 +114,7 @@ impl ReplicaStep<'_> {
         } else {
             self.own(Kind::Behind)
         };
-        Ok((self.card, Some(answer.answering(entry))))
+        Ok((None, Some(answer.answering(entry))))
     }
 
     fn stocked(&self, entry: &Entry) -> Outcome {
@@ -134,15 +133,13 @@ impl ReplicaStep<'_> {
         self.require_pair(entry.pair())?;
         let heard = with_party(card.heard, entry.sender);
         let pair = higher(card.pair, entry.pair());
-        Ok((
-            Card {
-                heard,
-                pair,
-                ready: self.rules.is_quorum(heard),
-                ..card
-            },
-            None,
-        ))
+        let card = Card {
+            heard,
+            pair,
+            ready: self.rules.is_quorum(heard),
+            ..card
+        };
+        Ok((Some(card), None))
     }
 
     fn require_pair(&self, pair: Pair) -> Result<(), Refusal> {

@@ -1,5 +1,5 @@
 // What every step goes by: who is in the hall, what a quorum is, what is genuine.
-use crate::book::Book;
+use crate::sealer::Sealer;
 use crate::wire::{Configuration, Pair, Party, Set};
 
 #[derive(Clone, Copy)]
@@ -24,12 +24,12 @@ impl Rules {
         }
     }
 
-    pub fn is_pair_genuine(&self, book: &Book, pair: Pair) -> bool {
+    pub fn is_pair_genuine(&self, book: &impl Sealer, pair: Pair) -> bool {
         let by_client = (1..=self.clients).contains(&pair.stamp.writer);
         pair == self.opening || by_client && book.has_sealed_pair(pair)
     }
 
-    pub fn is_configuration_genuine(&self, book: &Book, shown: Configuration) -> bool {
+    pub fn is_configuration_genuine(&self, book: &impl Sealer, shown: Configuration) -> bool {
         shown == self.first || book.has_sealed_configuration(shown)
     }
 }

@@ -1,10 +1,20 @@
 // A script run line by line over one hall, and what is printed at its end.
+use crate::book::Book;
 use crate::commands::{Command, Value};
-use crate::hall::{Hall, Operation, SetUp, Slip};
+use crate::hall::{Hall, Operation, Places, SetUp, Slip};
 use crate::refusals::{Refusal, require};
+use crate::store::Cabinet;
 use crate::weights::Weight;
 use crate::wire::{Pair, Set, Stamp};
 use std::fmt::{self, Write};
+
+// The places of the tables, and how many seals each party has.
+const PLACES: Places = Places {
+    post: 512,
+    log: 64,
+    roll: 16,
+};
+const SEALS: u64 = 64;
 
 pub enum Stage {
     Unopened,
@@ -86,7 +96,7 @@ fn set_up(
     for bit in bits {
         set_up.mark(100 + bit)?;
     }
-    Ok(set_up.open(opening))
+    set_up.open(opening, PLACES, Book::new(SEALS), Cabinet::new())
 }
 
 fn obey(hall: &mut Hall, command: Command) -> Result<(), Refusal> {

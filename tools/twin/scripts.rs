@@ -262,7 +262,7 @@ fn behind(hall: &Hall, shown: &Entry) -> impl Iterator<Item = u8> {
         .seats
         .iter()
         .map(|seat| (seat.line.client, seat.line.configuration.epoch));
-    let cards = hall.cabinet.iter().map(|card| card.present.epoch);
+    let cards = hall.cabinet.cards.iter().map(|card| card.present.epoch);
     clients
         .chain(replicas(hall).zip(cards))
         .filter(move |each| each.1 < epoch)

@@ -7,6 +7,8 @@ mod refusals;
 mod replica;
 mod rules;
 mod script;
+mod sealer;
+mod store;
 mod weights;
 mod wire;
 

@@ -1,0 +1,3 @@
+pub mod Tallies
+pub mod Plans
+pub mod Sums
