@@ -35,6 +35,7 @@ pub fn begin<L: Sealer>(
 }
 
 // Hands an entry to a client. Answers the entry that it posts, if any; a refusal leaves line and sealer as they were.
+#[inline(always)]
 pub fn client_step<K: Kind, L: Sealer>(
     rules: &Rules,
     client: Client,
@@ -46,14 +47,13 @@ pub fn client_step<K: Kind, L: Sealer>(
     ensures grows { GenuineStepped rules.now K.Kind.NUMBER (L.Sealer.desk sealer.old) client line.old entry.now (L.Sealer.desk sealer.new).genuine }
 {
     let judged = rules.judge::<K, L>(entry, sealer);
-    let objects = |why| ClientFault::Objects(client, why);
-    let turn = decide(rules, client, line, &judged).map_err(objects)?;
-    match turn {
-        Turn::Moves(next, post) => {
+    match decide(rules, client, line, &judged) {
+        Err(why) => Err(ClientFault::Objects(client, why)),
+        Ok(Turn::Moves(next, post)) => {
             *line = next;
             Ok(post)
         }
-        Turn::Stamps(next) => {
+        Ok(Turn::Stamps(next)) => {
             let seal = sealer.seal(Text::of_pair(K::NUMBER, next.highest))?;
             let sealed = Standing {
                 client,

@@ -64,6 +64,7 @@ impl Standing {
     }
 
     // It asks for pairs in the next round.
+    #[inline(always)]
     fn reads_next(self) -> Result<Turn, Objection>
         ensures { result ≡ reads_next self.client self.line }
     {
@@ -73,6 +74,7 @@ impl Standing {
     }
 
     // It writes the highest pair, or its own, in the next round.
+    #[inline(always)]
     fn writes_next(self, stage: Stage) -> Result<Turn, Objection>
         ensures { result ≡ writes_next stage self.client self.line }
     {
@@ -95,6 +97,7 @@ impl Standing {
     }
 
     // A round of reading closes.
+    #[inline(always)]
     fn closing(self) -> Result<Turn, Objection>
         ensures { result ≡ closing self.line.word self.client self.line }
     {
@@ -111,6 +114,7 @@ impl Standing {
     }
 
     // PAIR: the answer to READ.
+    #[inline(always)]
     fn on_pair(self, rules: &Rules, judged: &Judged) -> Result<Turn, Objection>
         ensures { result ≡ on_pair rules.now self.client self.line judged.now.entry judged.now.genuine }
     {
@@ -128,6 +132,7 @@ impl Standing {
     }
 
     // ACK: the answer to WRITE.
+    #[inline(always)]
     fn on_ack(self, rules: &Rules, entry: &Entry) -> Result<Turn, Objection>
         ensures { result ≡ on_ack rules.now self.line entry.now }
     {
@@ -146,6 +151,7 @@ impl Standing {
     }
 
     // In a new configuration an open round begins anew: a stamped write with the same pair, all else by reading again.
+    #[inline(always)]
     fn reopening(self) -> Result<Turn, Objection>
         ensures { result ≡ reopening self.line.stage self.client self.line }
     {
@@ -157,6 +163,7 @@ impl Standing {
     }
 
     // CONFIG: a newer configuration.
+    #[inline(always)]
     fn on_config(self, judged: &Judged) -> Result<Turn, Objection>
         ensures { result ≡ on_config self.client self.line judged.now.entry judged.now.genuine }
     {
@@ -169,6 +176,7 @@ impl Standing {
     }
 
     // BEHIND: a replica does not know the client's epoch yet, and is shown it.
+    #[inline(always)]
     fn on_behind(self, entry: &Entry) -> Result<Turn, Objection>
         ensures { result ≡ on_behind self.client self.line entry.now }
     {
@@ -182,6 +190,7 @@ impl Standing {
 }
 
 // What a client with this line makes of an entry that was judged.
+#[inline(always)]
 pub fn decide(
     rules: &Rules,
     client: Client,

@@ -23,6 +23,7 @@ use wire::{Client, Entry, Party, Replica};
 
 impl<K: Kind> Hall<K> {
     // Keeps what a step of this client has made of its line, and posts what it answers.
+    #[inline(always)]
     fn client_moves(
         &mut self,
         tables: &mut Tables,
@@ -45,6 +46,7 @@ impl<K: Kind> Hall<K> {
     }
 
     // Hands an entry to a client.
+    #[inline(always)]
     fn deliver_to_client<L: Sealer>(
         &mut self,
         tables: &mut Tables,
@@ -67,6 +69,7 @@ impl<K: Kind> Hall<K> {
     }
 
     // Hands an entry to a replica.
+    #[inline(always)]
     fn deliver_to_replica<S: Store, L: Sealer>(
         &mut self,
         tables: &mut Tables,

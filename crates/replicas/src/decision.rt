@@ -98,6 +98,7 @@ fn stock_from(rules: &Rules, card: &Card, judged: &Judged) -> Result<Decision, O
 }
 
 // What a replica with this card makes of an entry that was judged.
+#[inline(always)]
 pub fn decide(
     rules: &Rules,
     replica: Replica,

@@ -2,7 +2,7 @@
 ghost use Rattle.std.specs.Prelude.{◌≡◌};
 ghost use Rattle.replicas.specs.Steps.{replica_stepped};
 
-use crate::decision::decide;
+use crate::decision::{Decision, decide};
 use crate::fault::ReplicaFault;
 use kinds::Kind;
 use rules::{Objection, Rules};
@@ -11,6 +11,7 @@ use stores::Store;
 use wire::{Entry, Replica};
 
 // Hands an entry to a replica. Answers the entry that it posts, if any; a refusal leaves the store as it was.
+#[inline(always)]
 pub fn replica_step<K: Kind, S: Store, L: Sealer>(
     rules: &Rules,
     replica: Replica,
@@ -23,9 +24,13 @@ pub fn replica_step<K: Kind, S: Store, L: Sealer>(
     let objects = |why| ReplicaFault::Objects(replica, why);
     let card = store.load(replica).ok_or(objects(Objection::NotMember))?;
     let judged = rules.judge::<K, L>(entry, sealer);
-    let decision = decide(rules, replica, &card, &judged).map_err(objects)?;
-    if let Some(card) = decision.save {
-        store.save(replica, card)?;
+    match decide(rules, replica, &card, &judged) {
+        Err(why) => Err(objects(why)),
+        Ok(Decision { save, post }) => {
+            if let Some(card) = save {
+                store.save(replica, card)?;
+            }
+            Ok(post)
+        }
     }
-    Ok(decision.post)
 }

@@ -85,6 +85,7 @@ impl Rules {
     }
 
     // The entry, and whether what it carries is genuine: a pair, a configuration, or nothing.
+    #[inline(always)]
     pub fn judge<K: Kind, L: Sealer>(&self, entry: &Entry, sealer: &L) -> Judged
         ensures { result ≡ record { entry = entry.now; genuine = genuine_entry self.now K.Kind.NUMBER (L.Sealer.desk sealer.now).genuine entry.now } }
     {
