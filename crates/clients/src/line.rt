@@ -127,6 +127,7 @@ impl Line {
     }
 
     // One more replica counted with its pair.
+    #[inline(always)]
     pub(crate) fn hearing(self, from: Replica, pair: Pair) -> Line
         ensures { result ≡ hearing self from pair }
     {

@@ -43,6 +43,7 @@ fn logged(operation: Operation, before: &Line, after: &Line, moment: u32) -> Ope
 
 // Changes the line of the log at this place, if there is one.
 #[tactic(auto, using(crate::proofs::Changes::put_nowhere))]
+#[inline(always)]
 pub(crate) fn log_step(
     log: &mut List<Operation>,
     place: u32,

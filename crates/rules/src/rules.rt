@@ -64,6 +64,7 @@ impl Rules {
     }
 
     // Whether it is the opening pair, or a client of the hall has sealed it.
+    #[inline(always)]
     pub fn is_genuine_pair<K: Kind, L: Sealer>(&self, pair: Pair, sealer: &L) -> bool
         ensures { result ≡ genuine_pair self.now K.Kind.NUMBER (L.Sealer.desk sealer.now).genuine pair }
     {

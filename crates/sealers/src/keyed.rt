@@ -34,6 +34,7 @@ impl KeyRow {
     }
 
     // The seal that this key gives a text.
+    #[inline(always)]
     fn seal_of(self, text: Text) -> Seal
         ensures { result ≡ key_seal self text }
     {
