@@ -59,7 +59,7 @@ unsafe extern "C" {
 
 // How many calls a run makes at least, and how many runs of each side are made.
 const CALLS: u64 = 100_000;
-const RUNS: usize = 60;
+const RUNS: usize = 100;
 
 // A write and a read post so many entries with a quorum of q.
 fn entries(q: u64) -> u64 {
@@ -153,45 +153,41 @@ fn compare(plan: Plan, bytes: &mut [u8]) {
     );
 }
 
-// What a call of a write and a read costs behind so many entries, in ns: the run without them is taken off.
-fn behind(filled: u16, bytes: &mut [u8]) {
-    let turns = 5;
-    let plan = Plan {
-        turns,
-        filled,
-        ..full(4096, 1, 1, false, false)
-    };
+// How much longer a delivery makes a run, in ns on each side: the run without these deliveries is taken off.
+fn delivery(plan: Plan, bytes: &mut [u8]) -> (f64, f64) {
     let (plan, calls) = enough(plan, bytes);
-    let bare = Plan { turns: 0, ..plan };
+    let bare = Plan { loads: 0, ..plan };
+    let made = (calls - same(&bare, bytes)) as f64;
     let (ours, theirs) = least(&plan, bytes);
     let (ours_bare, theirs_bare) = least(&bare, bytes);
-    let made = (calls - same(&bare, bytes)) as f64;
-    println!(
-        "behind {filled:4} entries a call takes {:5.1} ns, the twin's {:5.1} ns",
-        (ours - ours_bare) / made * 1e9,
-        (theirs - theirs_bare) / made * 1e9,
-    );
+    let ns = |all: f64, bare: f64| (all - bare) / made * 1e9;
+    (ns(ours, ours_bare), ns(theirs, theirs_bare))
 }
 
-// What a delivery costs in ns that loads a card from a tape, with so many records in all, of a replica whose last one is
-// near the end, or near the beginning: a run without these deliveries is taken off.
+// A delivery of READ over a post with so many entries and more.
+fn behind(filled: u16, bytes: &mut [u8]) {
+    let plan = Plan {
+        filled,
+        turns: 1,
+        loads: 2000,
+        ..full(4096, 1, 1, false, false)
+    };
+    let (ours, theirs) = delivery(plan, bytes);
+    println!("behind {filled:4} entries a delivery takes {ours:5.1} ns, the twin's {theirs:5.1} ns");
+}
+
+// A delivery that loads a card from a tape, of a replica whose last record is near the end, or far from it.
 fn loading(plan: Plan, bytes: &mut [u8]) {
-    for (where_to, loader) in [("near", 0), ("far", 3)] {
+    for (place, loader) in [("near", 0), ("far", 3)] {
         let plan = Plan {
-            loads: 2000,
+            loads: 3900,
             loader,
             ..plan
         };
-        let (plan, calls) = enough(plan, bytes);
-        let bare = Plan { loads: 0, ..plan };
-        let (ours, theirs) = least(&plan, bytes);
-        let (ours_bare, theirs_bare) = least(&bare, bytes);
-        let made = (calls - same(&bare, bytes)) as f64;
+        let (ours, theirs) = delivery(plan, bytes);
         println!(
-            "{:4} records behind the card, {where_to:4}: a delivery takes {:7.1} ns, the twin's {:7.1} ns",
+            "{:4} records behind the card, {place:4}: a delivery takes {ours:7.1} ns, the twin's {theirs:7.1} ns",
             records(&plan, loader),
-            (ours - ours_bare) / made * 1e9,
-            (theirs - theirs_bare) / made * 1e9,
         );
     }
 }
@@ -213,7 +209,7 @@ fn main() {
         }
         compare(full(4096, 5, 2, keyed, taped), &mut bytes);
     }
-    for filled in [0, 448, 4032] {
+    for filled in [0, 500, 2000] {
         behind(filled, &mut bytes);
     }
     // 16, 256 and 4,096 records behind the card that is far
