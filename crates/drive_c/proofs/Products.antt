@@ -11,5 +11,6 @@ capped (suc n) m k le (inr top) = omega arith
 pub more_times : (n m k : ℕ) → k ≡ more 0 m → min (n * k) 18446744073709551615 ≡ more 0 (n * m)
 more_times n m k e =
     elim (cases_lt m 18446744073709551616) [
-      inl small ↦ capped n m k (omega arith) (inl (omega arith))
-    | inr large ↦ capped n m k (omega arith) (inr (omega arith)) ]
+      | inl small ↦ capped n m k (omega arith) (inl (omega arith))
+      | inr large ↦ capped n m k (omega arith) (inr (omega arith))
+    ]
