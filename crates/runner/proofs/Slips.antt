@@ -9,6 +9,8 @@ use Rattle.wire.specs.declared.party.Party.TheVariants.{Source as TheSource, Cli
 use Rattle.wire.specs.Parties.{Client}
 use Rattle.clients.specs.Lines.{is_idle}
 use Rattle.clients.specs.Steps.{reading_next}
+use Rattle.stores.specs.Saved.{Shelf}
+use Rattle.sealers.specs.Sealing.{Desk}
 use Rattle.halls.specs.declared.fault.HallFault.{HallFault}
 use Rattle.halls.specs.declared.operation.Operation.{Operation}
 use Rattle.halls.specs.declared.seat.Seat.{Seat}
@@ -24,6 +26,13 @@ use Rattle.model.proofs.Ways.{way, way_in}
 use Rattle.model.proofs.Parties.{client_in}
 use Rattle.model.proofs.Tables.{places_added}
 use Rattle.runner.specs.Slips.{HasSlip, holds_its_slip, is_at}
+
+-- the meanings of a store and a sealer where they do not matter
+abbrev pub no_shelf : Shelf
+no_shelf = record { place = λ n. None; saves = None; next = 0 }
+
+abbrev pub no_desk : Desk
+no_desk = record { genuine = λ t s. false; seals = λ p. 0; given = λ t. record { 0 = 0 } }
 
 clash : {P : Type 0} (b : Bool) → not b ≡ true → b ≡ true → P
 clash true e is = absurd (false≢true e)

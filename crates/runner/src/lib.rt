@@ -9,5 +9,8 @@ mod play;
 mod running;
 
 pub use fault::ScriptFault;
-pub use lines::LIMIT;
-pub use play::run;
+pub use lines::{LIMIT, Numbered, numbered};
+pub use memory::{Memory, SEALS};
+pub use opening::open;
+pub use play::{run, set_up};
+pub use running::Running;

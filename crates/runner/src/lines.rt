@@ -13,13 +13,13 @@ pub const LIMIT: u64 = 32768;
 
 // The lines of a script. A last one that may be cut short stands as an empty one, which cannot be read either.
 #[derive(Drop)]
-pub(crate) struct ScriptLines<'a> {
+pub struct ScriptLines<'a> {
     whole: Lines<'a>,
     is_cut: bool,
 }
 
 // With their numbers, from 1 on.
-pub(crate) type Numbered<'a> = Zip<ScriptLines<'a>, RangeFrom<u64>>;
+pub type Numbered<'a> = Zip<ScriptLines<'a>, RangeFrom<u64>>;
 
 // A text up to its last line feed, and with it.
 fn to_last_feed(text: &[u8]) -> &[u8]
@@ -74,7 +74,7 @@ impl<'a> Iterator for ScriptLines<'a> {
 }
 
 // The lines of a script with their numbers.
-pub(crate) fn numbered(text: &[u8]) -> Numbered<'_>
+pub fn numbered(text: &[u8]) -> Numbered<'_>
     ensures { left result.a result.b.start ≡ record { number = 1; lines = script_lines text.now } }
 {
     ScriptLines::new(text).zip(1..)

@@ -8,20 +8,20 @@ use std::alloc::{AllocError, Global};
 use wire::{Configuration, Entry, Pair, Text};
 
 // How many seals each party has.
-pub(crate) const SEALS: u16 = 64;
+pub const SEALS: u16 = 64;
 
 // The places of each table and the rows of the book, before a hall borrows them.
 #[derive(Drop)]
-pub(crate) struct Memory {
-    pub(crate) post: Vec<Entry>,
-    pub(crate) log: Vec<Operation>,
-    pub(crate) roll: Vec<Configuration>,
-    pub(crate) seats: Vec<Seat>,
-    pub(crate) rows: Vec<Text>,
+pub struct Memory {
+    pub post: Vec<Entry>,
+    pub log: Vec<Operation>,
+    pub roll: Vec<Configuration>,
+    pub seats: Vec<Seat>,
+    pub rows: Vec<Text>,
 }
 
 impl Memory {
-    pub(crate) fn new(heap: Global) -> Result<Memory, AllocError>
+    pub fn new(heap: Global) -> Result<Memory, AllocError>
         ensures { IfOk result Fresh }
     {
         let operation = Operation {

@@ -30,7 +30,7 @@ fn mark(setup: &mut Setup, set: ReplicaSet) -> Result<(), HallFault>
 }
 
 // Sets up, marks and opens.
-pub(crate) fn open(
+pub fn open(
     asked: SetUp,
     tables: &mut Tables,
     store: &mut Cabinet,

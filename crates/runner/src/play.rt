@@ -24,7 +24,7 @@ use std::alloc::{AllocError, Global};
 use stores::Cabinet;
 
 // The set-up that a line asks for.
-fn set_up(line: &[u8]) -> Option<SetUp>
+pub fn set_up(line: &[u8]) -> Option<SetUp>
     ensures { result ≡ set_up_of line.now }
 {
     match Command::read(line)? {

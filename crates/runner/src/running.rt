@@ -23,11 +23,11 @@ use stores::Cabinet;
 use wire::{Entry, ReplicaSet};
 
 #[derive(Drop)]
-pub(crate) struct Running<'a> {
-    pub(crate) hall: Hall<BinWeight>,
-    pub(crate) tables: Tables<'a>,
-    pub(crate) store: Cabinet,
-    pub(crate) sealer: Book<'a>,
+pub struct Running<'a> {
+    pub hall: Hall<BinWeight>,
+    pub tables: Tables<'a>,
+    pub store: Cabinet,
+    pub sealer: Book<'a>,
 }
 
 impl Running<'_> {
@@ -148,7 +148,7 @@ impl Running<'_> {
     }
 
     // Makes the calls that a line asks for; another set-up is not to be read here.
-    pub(crate) fn take(&mut self, line: &[u8]) -> Result<(), ScriptFault>
+    pub fn take(&mut self, line: &[u8]) -> Result<(), ScriptFault>
         ensures { Does (world self.old) (asks (world self.old).hall (command_in (fields line.now))) (result_err result) (world self.new) }
     {
         match Command::read(line).ok_or(ScriptFault::Unreadable)? {
@@ -165,7 +165,7 @@ impl Running<'_> {
     }
 
     // What is printed of it.
-    pub(crate) fn report(&self, heap: Global, refusals: &[Refusal]) -> Result<String, AllocError>
+    pub fn report(&self, heap: Global, refusals: &[Refusal]) -> Result<String, AllocError>
         ensures { IfOk result (λ s. string_bytes s ≡ printed (world self.now).hall.roll.list (world self.now).hall.log.list refusals.now) }
     {
         let roll = self.tables.roll.used();

@@ -1,0 +1,187 @@
+// The chart of a script: its lines are run one after the other, and the tables and the store are looked at after each.
+ghost use Rattle.std.specs.Prelude.{◌≡◌, IfOk, OnOk, string_bytes};
+ghost use Rattle.fields.specs.Parts.{fields};
+ghost use Rattle.script.specs.Commands.{command_in};
+ghost use Rattle.charts.specs.Charts.{IsChart};
+ghost use Rattle.charts.specs.Watches.{seen, unopened_text};
+ghost use Rattle.charts.specs.Looks.{view, looked, noticed};
+
+use crate::caption::Caption;
+use crate::chart::Chart;
+use crate::layout::Layout;
+use crate::look::{command, moves};
+use crate::mark::Mark;
+use crate::watch::{Watch, margin, row_of};
+use halls::HallFault;
+use lists::List;
+use refusals::{Fault, Refusal};
+use register::Tables;
+use runner::{LIMIT, Memory, Numbered, Running, SEALS, ScriptFault, numbered, open, set_up};
+use script::{Command, SetUp};
+use sealers::Book;
+use std::alloc::{AllocError, Global};
+use stores::Cabinet;
+
+// Looks at the tables and the store after a row.
+fn look(heap: Global, watch: &mut Watch, running: &Running, row: u16) -> Result<(), AllocError>
+    ensures { OnOk result (seen watch.new ≡ looked (seen watch.old) (view running.now) row) }
+{
+    let tables = &running.tables;
+    let moves = moves(
+        heap,
+        tables.roll.used(),
+        tables.seats,
+        &running.store,
+        watch.stays.as_slice(),
+    )?;
+    watch.posts(tables.post.used(), row)?;
+    watch.moves(heap, moves.as_slice(), row)?;
+    watch.works(heap, tables.log.used(), row)
+}
+
+// A row has left the hall so, and what was asked for in it was done, or refused by this.
+fn note(
+    heap: Global,
+    watch: &mut Watch,
+    running: &Running,
+    asked: Option<Command>,
+    fault: Option<ScriptFault>,
+    row: u16,
+) -> Result<(), AllocError>
+    ensures { OnOk result (seen watch.new ≡ noticed (seen watch.old) (view running.now) asked fault row) }
+{
+    look(heap, watch, running, row)?;
+    command(watch, running.tables.seats, asked, fault, row)
+}
+
+// Runs a line, and puts down what has come of it; answers what was refused.
+fn take(
+    heap: Global,
+    watch: &mut Watch,
+    running: &mut Running,
+    line: &[u8],
+    row: u16,
+) -> Result<Option<ScriptFault>, AllocError>
+    ensures { IfOk result (λ fault. seen watch.new ≡ noticed (seen watch.old) (view running.new) (command_in (fields line.now)) fault row) }
+{
+    let fault = running.take(line).err();
+    note(heap, watch, running, Command::read(line), fault, row)?;
+    Ok(fault)
+}
+
+// The chart of a script without a hall: all its lines were refused.
+fn unopened(heap: Global, refusals: &[Refusal]) -> Result<String, AllocError>
+    ensures { IfOk result (λ s. string_bytes s ≡ unopened_text refusals.now) }
+{
+    let rows = row_of(refusals.len() as u64);
+    let mut chart = Chart::new(heap);
+    chart.over(Mark::Title(Caption::Unopened))?;
+    margin(&mut chart, rows, refusals)?;
+    let layout = Layout {
+        clients: 0,
+        replicas: 0,
+        rows,
+    };
+    chart.drawn(heap, layout)
+}
+
+// The chart of a script whose set-up is refused: so are the lines behind it.
+fn refused(
+    heap: Global,
+    number: u64,
+    fault: ScriptFault,
+    lines: Numbered,
+    mut refusals: Vec<Refusal>,
+) -> Result<String, AllocError>
+    ensures { IfOk result (λ s. IsChart (string_bytes s)) }
+{
+    refusals.push(fault.told().at(number))?;
+    for (_, number) in lines {
+        refusals.push(ScriptFault::Unreadable.told().at(number))?;
+    }
+    unopened(heap, refusals.as_slice())
+}
+
+// Runs the lines that are left, and draws what was seen of all.
+fn run(
+    heap: Global,
+    mut watch: Watch,
+    running: &mut Running,
+    lines: Numbered,
+    mut refusals: Vec<Refusal>,
+) -> Result<String, AllocError>
+    ensures { IfOk result (λ s. IsChart (string_bytes s)) }
+{
+    let mut last = watch.layout.rows;
+    for (line, number) in lines {
+        last = row_of(number);
+        if let Some(fault) = take(heap, &mut watch, running, line, last)? {
+            refusals.push(fault.told().at(number))?;
+        }
+    }
+    watch.drawn(heap, last, refusals.as_slice())
+}
+
+// Opens the hall that the line of this number asks for, and runs the lines behind it.
+fn opened(
+    heap: Global,
+    number: u64,
+    asked: SetUp,
+    lines: Numbered,
+    refusals: Vec<Refusal>,
+) -> Result<String, AllocError>
+    ensures { IfOk result (λ s. IsChart (string_bytes s)) }
+{
+    let mut memory = Memory::new(heap)?;
+    let clients = memory.seats.len().min(asked.clients as usize);
+    let mut tables = Tables {
+        post: List::new(memory.post.as_mut_slice()),
+        log: List::new(memory.log.as_mut_slice()),
+        roll: List::new(memory.roll.as_mut_slice()),
+        seats: &mut memory.seats.as_mut_slice()[..clients],
+    };
+    let mut store = Cabinet::new();
+    let Ok(sealer) = Book::open(memory.rows.as_mut_slice(), SEALS) else {
+        let fault = ScriptFault::Hall(HallFault::Limit);
+        return refused(heap, number, fault, lines, refusals);
+    };
+    match open(asked, &mut tables, &mut store, &sealer) {
+        Ok(hall) => {
+            let watch = Watch::new(heap, asked, row_of(number))?;
+            let mut running = Running {
+                hall,
+                tables,
+                store,
+                sealer,
+            };
+            run(heap, watch, &mut running, lines, refusals)
+        }
+        Err(fault) => refused(heap, number, fault, lines, refusals),
+    }
+}
+
+// Takes the lines up to the first set-up, and refuses those before it.
+fn first_set_up(
+    lines: &mut Numbered,
+    refusals: &mut Vec<Refusal>,
+) -> Result<Option<(u64, SetUp)>, AllocError> {
+    for (line, number) in lines.by_ref() {
+        if let Some(asked) = set_up(line) {
+            return Ok(Some((number, asked)));
+        }
+        refusals.push(ScriptFault::Unreadable.told().at(number))?;
+    }
+    Ok(None)
+}
+
+// The chart of a script, of which no more than the first bytes are looked at.
+pub fn chart_of(heap: Global, text: &[u8]) -> Result<String, AllocError>
+    ensures { IfOk result (λ s. IsChart (string_bytes s)) }
+{
+    let mut refusals = Vec::new(heap);
+    let mut lines = numbered(&text[..text.len().min(LIMIT as usize)]);
+    match first_set_up(&mut lines, &mut refusals)? {
+        Some((number, asked)) => opened(heap, number, asked, lines, refusals),
+        None => unopened(heap, refusals.as_slice()),
+    }
+}

@@ -1,0 +1,3 @@
+pub mod Colours
+pub mod Shapes
+pub mod Pictures
