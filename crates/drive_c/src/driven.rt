@@ -1,5 +1,5 @@
 // A hall at work, with its tables, and a tally of its calls.
-ghost use Rattle.std.specs.Prelude.{◌≡◌, IfOk, fold};
+ghost use Rattle.std.specs.Prelude.{◌≡◌, ◌-◌, IfOk, fold, length};
 ghost use Rattle.lists.specs.Held.{held};
 ghost use Rattle.register.specs.Worlds.{bare};
 ghost use Rattle.runner.specs.Slips.{HasSlip, holds_its_slip};
@@ -35,7 +35,9 @@ fn mixed(sum: u64, operation: Operation) -> u64
 
 impl Driven<'_> {
     // The number of the newest entry.
-    pub(crate) fn newest(&self) -> u64 {
+    pub(crate) fn newest(&self) -> u64
+        ensures { result ≡ length (held self.now.tables.post) - 1 }
+    {
         (self.tables.post.len() as u64).saturating_sub(1)
     }
 

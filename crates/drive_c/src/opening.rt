@@ -1,4 +1,4 @@
-// The openings of a plan: each over the same tables, with a store and a sealer that begin anew.
+// The openings of a plan: each over the same tables, with a store and a book that begin anew; a keyed sealer goes on.
 ghost use Rattle.std.specs.Prelude.{◌≡◌, ◌*◌, IfSome};
 ghost use Rattle.drive_c.specs.Plans.{calls_of, calls_of_opening};
 ghost use Rattle.drive_c.specs.Tallies.{more};

@@ -1,5 +1,5 @@
 // What is to be done: how large a hall is, over which sealer and which store, and how much each opening is used.
-ghost use Rattle.std.specs.Prelude.{◌≡◌};
+ghost use Rattle.std.specs.Prelude.{◌≡◌, ◌+◌};
 ghost use Rattle.drive_c.specs.Plans.{calls_of, calls_of_opening, members_of, outsiders_of, quorum_of};
 ghost use Rattle.drive_c.specs.Tallies.{more};
 
@@ -53,7 +53,9 @@ impl Plan {
     }
 
     // The party number of the replica that is marked.
-    pub(crate) fn marked(&self) -> u64 {
+    pub(crate) fn marked(&self) -> u64
+        ensures { result ≡ 99 + members_of self.now.faults }
+    {
         100 + 3 * u64::from(self.faults)
     }
 
