@@ -1,3 +1,4 @@
 pub mod Tallies
 pub mod Plans
+pub mod Seen
 pub mod Sums

@@ -1,8 +1,14 @@
 // A hall at work, with its tables, and a tally of its calls.
-ghost use Rattle.std.specs.Prelude.{◌≡◌, ◌-◌, IfOk, fold, length};
+ghost use Rattle.std.specs.Prelude.{◌≡◌, ◌-◌, cond, IfOk, fold, length};
 ghost use Rattle.lists.specs.Held.{held};
-ghost use Rattle.register.specs.Worlds.{bare};
+ghost use Rattle.stores.specs.Saved.{Shelf};
+ghost use Rattle.sealers.specs.Sealing.{Desk};
+ghost use Rattle.model.specs.Issuing.{issue_called};
+ghost use Rattle.model.specs.Delivering.{deliver_called};
+ghost use Rattle.model.specs.Meddling.{meddle_called};
+ghost use Rattle.register.specs.Worlds.{bare, hall_of, world_of};
 ghost use Rattle.runner.specs.Slips.{HasSlip, holds_its_slip};
+ghost use Rattle.drive_c.specs.Seen.{seen};
 ghost use Rattle.drive_c.specs.Sums.{mixed};
 ghost use Rattle.drive_c.specs.Tallies.{more};
 
@@ -128,36 +134,48 @@ impl Driven<'_> {
         }
     }
 
-    // Hands an entry to a party.
+    // Hands an entry to a party, and says whether that was done.
     pub(crate) fn deliver<S: Store, L: Sealer>(
         &mut self,
         entry: u64,
         party: u64,
         store: &mut S,
         sealer: &mut L,
-    )
-        ensures { self.new.tally.calls ≡ more self.old.tally.calls 1 }
+    ) -> bool
+        ensures call { record { was_done = result; hall = hall_of self.new.hall self.new.tables (S.Store.shelf store.new) (L.Sealer.desk sealer.new) } ≡ seen (deliver_called {V = BinWeight} (world_of self.old.hall self.old.tables (S.Store.shelf store.old) (L.Sealer.desk sealer.old)) 1 entry party) }
+        ensures calls { self.new.tally.calls ≡ more self.old.tally.calls 1 }
+        ensures refused { self.new.tally.refused ≡ more self.old.tally.refused (cond result 0 1) }
     {
-        let done = self
+        let answer = self
             .hall
             .deliver::<S, L>(&mut self.tables, entry, party, store, sealer);
-        self.tally.count(done.is_ok());
+        let done = answer.is_ok();
+        self.tally.count(done);
+        done
     }
 
-    // Issues this set.
-    pub(crate) fn issue<L: Sealer>(&mut self, set: ReplicaSet, sealer: &mut L)
-        ensures { self.new.tally.calls ≡ more self.old.tally.calls 1 }
+    // Issues this set, and says whether that was done.
+    pub(crate) fn issue<L: Sealer>(&mut self, set: ReplicaSet, sealer: &mut L) -> bool
+        ensures call { (shelf : Shelf) → record { was_done = result; hall = hall_of self.new.hall self.new.tables shelf (L.Sealer.desk sealer.new) } ≡ seen (issue_called {V = BinWeight} (world_of self.old.hall self.old.tables shelf (L.Sealer.desk sealer.old)) set) }
+        ensures calls { self.new.tally.calls ≡ more self.old.tally.calls 1 }
+        ensures refused { self.new.tally.refused ≡ more self.old.tally.refused (cond result 0 1) }
     {
-        let done = self.hall.issue(&mut self.tables, set, sealer);
-        self.tally.count(done.is_ok());
+        let answer = self.hall.issue(&mut self.tables, set, sealer);
+        let done = answer.is_ok();
+        self.tally.count(done);
+        done
     }
 
-    // Posts an entry in the name of the marked replica.
-    pub(crate) fn meddle(&mut self, party: u64)
-        ensures { self.new.tally.calls ≡ more self.old.tally.calls 1 }
+    // Posts this entry in the name of the marked replica, and says whether that was done.
+    pub(crate) fn meddle(&mut self, party: u64, entry: Entry) -> bool
+        ensures call { (shelf : Shelf) (desk : Desk) → record { was_done = result; hall = hall_of self.new.hall self.new.tables shelf desk } ≡ seen (meddle_called {V = BinWeight} (world_of self.old.hall self.old.tables shelf desk) party entry) }
+        ensures calls { self.new.tally.calls ≡ more self.old.tally.calls 1 }
+        ensures refused { self.new.tally.refused ≡ more self.old.tally.refused (cond result 0 1) }
     {
-        let done = self.hall.meddle(&mut self.tables, party, Entry::default());
-        self.tally.count(done.is_ok());
+        let answer = self.hall.meddle(&mut self.tables, party, entry);
+        let done = answer.is_ok();
+        self.tally.count(done);
+        done
     }
 
     // Takes the log into the sum.

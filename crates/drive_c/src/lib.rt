@@ -19,8 +19,9 @@ pub use tally::Tally;
 
 // Opens as many halls as are planned, one after the other over the same tables, does in each what is planned, and adds the
 // calls to the tally. The bytes are the tape's, where there is one.
-// What is proved of it is how many calls are counted, and that no more are refused than counted. That they are the calls of
-// the plan, which of them are refused, and the sum over the logs are seen only by comparing with another hall at the same plan.
+// Its contract says how many calls are counted, and the type of a tally that no more are refused. Inside, each issue, delivery
+// and entry is proved to be that call of the model, and to count as refused exactly where the model refuses. That they are the
+// calls of the plan, and what the logs add up to, is not in the contract: it is seen by comparing with another hall.
 #[unsafe(no_mangle)]
 pub extern "C" fn dagbirin_drive(heap: Global, plan: &Plan, bytes: &mut [u8], tally: &mut Tally)
     ensures { tally.new.calls ≡ more tally.old.calls (calls_of plan.now) }

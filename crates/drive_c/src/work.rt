@@ -8,6 +8,7 @@ use crate::plan::Plan;
 use kinds::BinWeight;
 use sealers::Sealer;
 use stores::Store;
+use wire::Entry;
 
 // The party number of a replica.
 fn party(replica: u64) -> u64 {
@@ -20,7 +21,7 @@ impl Driven<'_> {
         ensures { self.new.tally.calls ≡ more self.old.tally.calls entries }
     {
         for _entry in 0..entries {
-            self.meddle(marked);
+            self.meddle(marked, Entry::default());
         }
     }
 
