@@ -120,7 +120,7 @@ fn operations(rt: HostRuntime) -> Result<(), Fail> {
         name: "a write that is called off",
         script: "S 1 4 1 15 0 0 412\nW 1 10 412\nO 1\nhello\n",
         has: &[
-            "<rect x='280' y='122' width='6' height='26' fill='#666666'/>\n",
+            "<rect x='280' y='122' width='6' height='38' fill='#666666'/>\n",
             "<text x='274' y='122' dy='0.35em' text-anchor='end' font-size='10' fill='#222222'>W 10 g</text>\n",
             "<text x='274' y='133' dy='0.35em' text-anchor='end' font-size='10' fill='#222222'>lot 412</text>\n",
             "<text x='274' y='148' dy='0.35em' text-anchor='end' font-size='10' fill='#222222'>called off</text>\n",

@@ -30,6 +30,11 @@ abbrev pub bar_colour : Bool → Colour
 bar_colour true = Green
 bar_colour false = Grey
 
+-- where it ends: at the line of its last row, or at the foot of that row
+abbrev pub bar_end : ℕ → Bool → ℕ
+bar_end until true = height until
+bar_end until false = height until + 12
+
 abbrev pub block_of : ℕ → ℕ → ℕ → ℕ → Colour → Shape Caption
 block_of x top bottom width colour = Block (point_at x top) width (bottom - top) colour
 
@@ -64,7 +69,7 @@ mark_shape l (RowNumber row) = text_of 36 (height row) End 10 (SaysRow row)
 mark_shape l (Cross row) = ACross (point_at 54 (height row))
 mark_shape l (Reason row caption) = text_of 64 (height row) Start 10 caption
 mark_shape l (Band at until epoch) = block_of (column l.clients at.party - 12) (height at.row - 13) (height until - 13) 24 (tint epoch)
-mark_shape l (Bar at until over) = block_of (column l.clients at.party - 10) (height at.row) (height until) 6 (bar_colour over)
+mark_shape l (Bar at until over) = block_of (column l.clients at.party - 10) (height at.row) (bar_end until over) 6 (bar_colour over)
 mark_shape l (Cap place) = block_of (column l.clients place.party - 12) (height place.row - 1) (height place.row + 2) 10 Ink
 mark_shape l (Arrow from to stroke) = arrow_shape l.clients from to stroke
 mark_shape l (Struck place) = ACross (point_of l.clients place)

@@ -189,7 +189,7 @@ margined c rows refusals = all_refused (all_rowed c rows) refusals
 abbrev pub finished : Seen → ℕ → List Refusal → Layers
 finished w rows refusals =
     let last = row_of (rows + 1) in
-    let operations = all_worked last (all_stayed last (margined w.chart rows refusals) w.stays) w.works in
+    let operations = all_worked rows (all_stayed last (margined w.chart rows refusals) w.stays) w.works in
     all_explained (all_headed w.marked rows (all_lost 0 operations w.posted) w.stays) legend
 
 abbrev pub with_rows : Layout → ℕ → Layout

@@ -1,6 +1,6 @@
 // The marks of a chart, by lanes and rows, and the shape of each.
 ghost use Rattle.std.specs.Prelude.{◌≡◌};
-ghost use Rattle.charts.specs.Marks.{tint, bar_colour, block_of, text_of, arrow_shape, sample_shape, mark_shape};
+ghost use Rattle.charts.specs.Marks.{tint, bar_colour, bar_end, block_of, text_of, arrow_shape, sample_shape, mark_shape};
 
 use crate::caption::Caption;
 use crate::layout::{Layout, Place, Slot, height};
@@ -74,6 +74,14 @@ fn bar_colour(over: bool) -> Colour
     ensures { result ≡ bar_colour over }
 {
     if over { Colour::Green } else { Colour::Grey }
+}
+
+// Where an operation's bar ends: at the line of its last row, or at the foot of that row if it is not over.
+fn bar_end(until: u16, over: bool) -> u64
+    ensures { result ≡ bar_end until over }
+{
+    let line = u64::from(height(until));
+    if over { line } else { line + 12 }
 }
 
 // A block of this width between two heights.
@@ -198,7 +206,7 @@ impl Mark {
             Mark::Bar { at, until, over } => {
                 let x = u64::from(layout.column(at.party)) - 10;
                 let top = u64::from(height(at.row));
-                block(x, top, u64::from(height(until)), 6, bar_colour(over))
+                block(x, top, bar_end(until, over), 6, bar_colour(over))
             }
             Mark::Cap(place) => {
                 let x = u64::from(layout.column(place.party)) - 12;

@@ -378,7 +378,7 @@ impl Watch {
         let chart = &mut self.chart;
         margin(chart, rows, refusals)?;
         put_stays(chart, self.stays.as_slice(), last)?;
-        put_works(chart, self.works.as_slice(), last)?;
+        put_works(chart, self.works.as_slice(), rows)?;
         put_losses(chart, self.posted.as_slice())?;
         put_heads(chart, self.marked, self.stays.as_slice(), rows)?;
         put_legend(chart, &SIGNS)?;
