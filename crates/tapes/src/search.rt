@@ -15,6 +15,7 @@ fn first_unmarked(records: &[[u8; RECORD_SIZE]]) -> Option<usize>
 }
 
 // The last of these records that is of this replica.
+#[inline(never)]
 fn last_record(records: &[[u8; RECORD_SIZE]], number: u8) -> Option<&[u8; RECORD_SIZE]>
     ensures { option_copied result ≡ find (λ r. number == slice_index r 4) (reverse records.now) }
 {
