@@ -16,7 +16,7 @@ use halls::HallFault;
 use lists::List;
 use refusals::{Fault, Refusal};
 use register::Tables;
-use runner::{LIMIT, Memory, Numbered, Running, SEALS, ScriptFault, numbered, open, set_up};
+use runner::{LIMIT, Memory, Numbered, Running, SEALS, ScriptFault, first_set_up, numbered, open};
 use script::{Command, SetUp};
 use sealers::Book;
 use std::alloc::{AllocError, Global};
@@ -158,20 +158,6 @@ fn opened(
         }
         Err(fault) => refused(heap, number, fault, lines, refusals),
     }
-}
-
-// Takes the lines up to the first set-up, and refuses those before it.
-fn first_set_up(
-    lines: &mut Numbered,
-    refusals: &mut Vec<Refusal>,
-) -> Result<Option<(u64, SetUp)>, AllocError> {
-    for (line, number) in lines.by_ref() {
-        if let Some(asked) = set_up(line) {
-            return Ok(Some((number, asked)));
-        }
-        refusals.push(ScriptFault::Unreadable.told().at(number))?;
-    }
-    Ok(None)
 }
 
 // The chart of a script, of which no more than the first bytes are looked at.

@@ -1,5 +1,5 @@
 -- What is printed for a script.
-use Rattle.std.specs.Prelude.{◌≡◌, ℕ, ◌+◌, List, [], ◌∷◌, ◌++◌, length, Some, None, Ok, Err}
+use Rattle.std.specs.Prelude.{◌≡◌, ℕ, ◌+◌, List, [], ◌∷◌, ◌++◌, length, Some, None, Ok, Err, slice_index_or}
 use Rattle.std.specs.List.{AllByRecursion}
 use Rattle.kinds.specs.declared.bin_weight.BinWeight.{BinWeight}
 use Rattle.kinds.specs.BinWeights.{weight}
@@ -7,6 +7,7 @@ use Rattle.refusals.specs.declared.Refusal.{Refusal}
 use Rattle.script.specs.declared.command.SetUp.{SetUp}
 use Rattle.script.specs.Reports.{printed}
 use Rattle.model.specs.Halls.{World}
+use Rattle.model.specs.Calls.{Call, redeem}
 use Rattle.model.specs.Runs.{Run}
 use Rattle.model.specs.Promise.{Promised}
 use Rattle.runner.specs.declared.fault.ScriptFault.{ScriptFault}
@@ -14,7 +15,7 @@ use Rattle.runner.specs.declared.fault.ScriptFault.TheVariants.{Unreadable}
 use Rattle.model.specs.Kinds.{bin_weights}
 use Rattle.runner.specs.Texts.{Numbered, set_up_of}
 use Rattle.runner.specs.Openings.{opening}
-use Rattle.runner.specs.Plays.{Plays, told}
+use Rattle.runner.specs.Plays.{Plays, told, calls_of}
 
 -- lines that are not to be read where they stand; the first has this number
 abbrev pub unread : ℕ → List (List ℕ) → List Refusal
@@ -35,9 +36,11 @@ pub record FirstSetUp (lines : List (List ℕ)) : Type 0 where
   pub asked : SetUp
   pub asks : set_up_of line ≡ Some asked
 
--- a run from this world to that one
-pub record RunTo (start last : World) : Type 0 where
+-- a run of these calls from this world to that one
+pub record RunOf (start last : World) (calls : List (Call BinWeight)) : Type 0 where
   pub run : Run bin_weights start
+  pub many : run.calls ≡ length calls
+  pub each : (i : ℕ) → run.call i ≡ slice_index_or calls i (redeem 0)
   pub ends : run.world run.calls ≡ last
 
 -- the promise holds of a hall that was opened with the value that the set-up names
@@ -46,7 +49,7 @@ pub record PromisedFor (asked : SetUp) (start : World) : Type 0 where
   pub valued : weight asked.grams asked.lot ≡ Some value
   pub promised : Promised bin_weights value start
 
--- the hall was opened, and the promise holds of it; these lines were played, and their calls make up a run;
+-- the hall was opened, and the promise holds of it; these lines were played, and their calls are a run;
 -- what is printed is its last roll and log, and what was refused before and then
 pub record Ran (asked : SetUp) (l : Numbered) (before : List Refusal) (text : List ℕ) : Type 0 where
   pub start : World
@@ -55,7 +58,7 @@ pub record Ran (asked : SetUp) (l : Numbered) (before : List Refusal) (text : Li
   pub last : World
   pub refusals : List Refusal
   pub plays : Plays l.number start l.lines refusals last
-  pub run : RunTo start last
+  pub run : RunOf start last (calls_of plays)
   pub shown : text ≡ printed last.hall.roll.list last.hall.log.list (before ++ refusals)
 
 -- nothing but refusals: those before, that of the set-up in the line of this number, and every line behind it

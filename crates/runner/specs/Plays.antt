@@ -19,6 +19,11 @@ pub data Does : World → Asks → Option ScriptFault → World → Type 0 where
   goes_on : {before between after : World} {call : Call BinWeight} {next : Answer BinWeight → Asks} {answer : Answer BinWeight} {fault : Option ScriptFault}
       → Step bin_weights before call answer between → Does between (next answer) fault after → Does before (calls call next) fault after
 
+-- the calls that were made
+unfoldable pub calls_in : {before after : World} {asked : Asks} {fault : Option ScriptFault} → Does before asked fault after → List (Call BinWeight)
+calls_in stops = []
+calls_in (goes_on {call = call} step rest) = call ∷ calls_in rest
+
 -- the line of this number is refused with this fault, or it is not
 abbrev pub told : ℕ → Option ScriptFault → List Refusal
 told number None = []
@@ -30,3 +35,8 @@ pub data Plays : ℕ → World → List (List ℕ) → List Refusal → World �
   line : {number : ℕ} {before between after : World} {text : List ℕ} {rest : List (List ℕ)} {fault : Option ScriptFault} {refusals : List Refusal}
       → Does before (asks before.hall (command_in (fields text))) fault between → Plays (number + 1) between rest refusals after
       → Plays number before (text ∷ rest) (told number fault ++ refusals) after
+
+-- the calls of all lines
+unfoldable pub calls_of : {number : ℕ} {before after : World} {lines : List (List ℕ)} {refusals : List Refusal} → Plays number before lines refusals after → List (Call BinWeight)
+calls_of ended = []
+calls_of (line does rest) = calls_in does ++ calls_of rest

@@ -24,7 +24,7 @@ use std::alloc::{AllocError, Global};
 use stores::Cabinet;
 
 // The set-up that a line asks for.
-pub fn set_up(line: &[u8]) -> Option<SetUp>
+fn set_up(line: &[u8]) -> Option<SetUp>
     ensures { result ≡ set_up_of line.now }
 {
     match Command::read(line)? {
@@ -41,12 +41,11 @@ fn refusal_of(number: u64, fault: ScriptFault) -> Refusal
 }
 
 // Takes the lines up to the first set-up, and refuses those before it.
-fn first_set_up(
+pub fn first_set_up(
     lines: &mut Numbered,
     refusals: &mut Vec<Refusal>,
 ) -> Result<Option<(u64, SetUp)>, AllocError>
-    requires { Countable (left lines.old.a lines.old.b.start) }
-    ensures { IfOk result (λ found. Searched (left lines.old.a lines.old.b.start) (vec_items refusals.old) found (left lines.new.a lines.new.b.start) (vec_items refusals.new)) }
+    ensures { Countable (left lines.old.a lines.old.b.start) → IfOk result (λ found. Searched (left lines.old.a lines.old.b.start) (vec_items refusals.old) found (left lines.new.a lines.new.b.start) (vec_items refusals.new)) }
 {
     while let Some((line, number)) = lines.next() {
         if let Some(asked) = set_up(line) {

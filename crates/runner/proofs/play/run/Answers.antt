@@ -11,15 +11,13 @@ use Rattle.runner.proofs.Playing.{shows, shows_none, still}
 use Rattle.runner.proofs.Texts.{few, read_of}
 use Rattle.runner.proofs.play.run.Goals as goal
 
-pub first_set_up-requires : goal.first_set_up-requires
-first_set_up-requires c = few c.args.text.now c.min.result _ c.min.ensures c.numbered-lines.ensures
-
 pub play-requires : goal.play-requires
 play-requires c =
     let lines = left c.numbered-lines.result.a c.numbered-lines.result.b.start in
     let next = left c.first_set_up.new.lines.a c.first_set_up.new.lines.b.start in
-    let found = subst (λ f. Searched lines (vec_items c.new-refusals.result) f next (vec_items c.first_set_up.new.refusals)) c.in-Some.is c.in_ok-number.ensures in
-    still lines next _ _ _ _ (few c.args.text.now c.min.result lines c.min.ensures c.numbered-lines.ensures) found
+    let countable = few c.args.text.now c.min.result lines c.min.ensures c.numbered-lines.ensures in
+    let found = subst (λ f. Searched lines (vec_items c.new-refusals.result) f next (vec_items c.first_set_up.new.refusals)) c.in-Some.is (c.in_ok-number.ensures countable) in
+    still lines next _ _ _ _ countable found
 
 pub returns-in-Some : goal.returns-in-Some
 returns-in-Some c =
@@ -28,7 +26,7 @@ returns-in-Some c =
     let lines = left c.numbered-lines.result.a c.numbered-lines.result.b.start in
     let next = left c.first_set_up.new.lines.a c.first_set_up.new.lines.b.start in
     let new = vec_items c.first_set_up.new.refusals in
-    let found = subst (λ f. Searched lines (vec_items c.new-refusals.result) f next new) c.in-Some.is c.in_ok-number.ensures in
+    let found = subst (λ f. Searched lines (vec_items c.new-refusals.result) f next new) c.in-Some.is (c.in_ok-number.ensures (few text c.min.result lines c.min.ensures c.numbered-lines.ensures)) in
     let alone = subst (λ old. Searched lines old (Some (c.in-Some.number, c.in-Some.asked)) next new) c.new-refusals.ensures.items found in
     IfOk-weaker c.play.result _ _ (λ s does. subst (λ t. Shows (script_lines t) (string_bytes s)) read.1
     (shows (script_lines (take c.min.result text)) lines c.numbered-lines.ensures c.in-Some.number c.in-Some.asked next new (string_bytes s) alone does)) c.play.ensures
@@ -40,7 +38,7 @@ returns-in-None c =
     let lines = left c.numbered-lines.result.a c.numbered-lines.result.b.start in
     let next = left c.first_set_up.new.lines.a c.first_set_up.new.lines.b.start in
     let new = vec_items c.first_set_up.new.refusals in
-    let none = subst (λ f. Searched lines (vec_items c.new-refusals.result) f next new) c.in-None.is c.in_ok-number.ensures in
+    let none = subst (λ f. Searched lines (vec_items c.new-refusals.result) f next new) c.in-None.is (c.in_ok-number.ensures (few text c.min.result lines c.min.ensures c.numbered-lines.ensures)) in
     let alone = subst (λ old. Searched lines old None next new) c.new-refusals.ensures.items none in
     IfOk-weaker c.report.result _ _ (λ s shown. subst (λ t. Shows (script_lines t) (string_bytes s)) read.1
     (shows_none (script_lines (take c.min.result text)) lines c.numbered-lines.ensures next new (string_bytes s) alone (shown ∙ ap (printed [] []) c.as_slice.ensures.value))) c.report.ensures
