@@ -1,5 +1,5 @@
 -- The number that bytes write, byte by byte and part by part. Assumes nothing.
-use Rattle.std.proofs.Common.{◌≡◌, ℕ, zero, suc, ◌+◌, ◌-◌, ◌*◌, ◌/◌, ◌%◌, ◌^◌, ◌<◌, ◌≤◌, List, [], ◌∷◌, ◌++◌, length, get_or, drop, replicate, sym, refl, ap, ◌∙◌, arith}
+use Rattle.std.proofs.Common.{◌≡◌, ℕ, zero, suc, ◌+◌, ◌-◌, ◌*◌, ◌/◌, ◌%◌, ◌^◌, ◌<◌, ◌≤◌, List, [], ◌∷◌, ◌++◌, length, get_or, drop, replicate, sym, refl, ap, ◌∙◌, subst, arith}
 use Rattle.std.proofs.lemmas.List.{drop_all, get_or-drop, drop-drop}
 use Rattle.std.proofs.lemmas.Nat.{shr-shr}
 use Rattle.siphash.specs.Words.{little, behind}
@@ -22,6 +22,16 @@ little_8 xs h = omega (arith, at xs 0, at xs 1, at xs 2, at xs 3, at xs 4, at xs
 -- fewer than eight bytes write a number below 2 ^ 56
 pub little_small : (xs : List ℕ) → length xs < 8 → ((i : ℕ) → get_or xs i 0 < 256) → little xs < 2 ^ 56
 little_small xs h fit = omega (arith, at xs 0, at xs 1, at xs 2, at xs 3, at xs 4, at xs 5, at xs 6, past 7 xs (omega arith), fit 0, fit 1, fit 2, fit 3, fit 4, fit 5, fit 6)
+
+-- the end of bytes is bytes
+pub end_fits : (front end bs : List ℕ) → bs ≡ front ++ end → ((i : ℕ) → get_or bs i 0 < 256) → (i : ℕ) → get_or end i 0 < 256
+end_fits [] end bs is fits i = subst (λ l. get_or l i 0 < 256) is (fits i)
+end_fits (x ∷ front) end bs is fits i = end_fits front end (front ++ end) refl (λ j. subst (λ l. get_or l (suc j) 0 < 256) is (fits (suc j))) i
+
+-- nothing stands before it
+pub all_taken : (front end bs : List ℕ) → bs ≡ front ++ end → length front ≡ 0 → end ≡ bs
+all_taken [] end bs is none = sym is
+all_taken (x ∷ front) end bs is none = absurd (omega (arith, none))
 
 all_zeros : (n k : ℕ) → little (drop n (replicate k 0)) ≡ 0
 unfolding little
