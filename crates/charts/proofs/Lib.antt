@@ -1,1 +1,1 @@
-pub mod Pictures
+pub mod Drawing

@@ -1,5 +1,5 @@
 -- The layers of a chart, what is put on them, and the text of its picture.
-use Rattle.std.specs.Prelude.{◌≡◌, ℕ, Bool, true, false, List, [], ◌∷◌, ◌++◌, is_some, Some, None, Option, map, min, ◌+◌}
+use Rattle.std.specs.Prelude.{ℕ, Bool, true, false, List, [], ◌∷◌, ◌++◌, is_some, Some, None, Option, map, min, ◌+◌}
 use Rattle.kinds.specs.declared.bin_weight.BinWeight.{BinWeight}
 use Rattle.refusals.specs.declared.Refusal.{Refusal as ARefusal}
 use Rattle.wire.specs.declared.party.Party.{Party}
@@ -98,9 +98,3 @@ explained c sign = under (under c (Sample sign)) (Meaning sign)
 abbrev pub chart_text : Layout → Layers → List ℕ
 chart_text l c =
     picture_text caption_text (picture_width l) (picture_height l) (map (mark_shape l) c.ground ++ map (mark_shape l) c.lines ++ map (mark_shape l) c.notes)
-
--- the text is that of some chart's picture
-pub record IsChart (text : List ℕ) : Type 0 where
-  pub layout : Layout
-  pub marks : Layers
-  pub is : text ≡ chart_text layout marks

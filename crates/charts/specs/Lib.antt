@@ -6,3 +6,4 @@ pub mod Seen
 pub mod Charts
 pub mod Watches
 pub mod Looks
+pub mod Drawings

@@ -2,22 +2,17 @@
 use Rattle.std.specs.Prelude.{ℕ, ◌-◌, Bool, true, false, cond, ◌==◌, List, length, map, slice_get, is_some, Some, None, Option, unwrap_or}
 use Rattle.std.specs.Option.{option_map}
 use Rattle.wire.specs.declared.pair.Configuration.{Configuration}
-use Rattle.wire.specs.declared.entry.Entry.{Entry}
 use Rattle.wire.specs.declared.party.Party.{Party}
 use Rattle.wire.specs.declared.party.Party.TheVariants.{Source, Client as AClient, Replica as AReplica}
 use Rattle.stores.specs.declared.card.Card.{Card}
-use Rattle.stores.specs.declared.cabinet.Cabinet.{Cabinet}
-use Rattle.stores.specs.Cabinets.{kept}
-use Rattle.lists.specs.Held.{held}
-use Rattle.halls.specs.declared.operation.Operation.{Operation}
 use Rattle.halls.specs.declared.seat.Seat.{Seat}
 use Rattle.halls.specs.declared.fault.HallFault.{HallFault}
 use Rattle.halls.specs.declared.fault.HallFault.TheVariants.{Step}
+use Rattle.model.specs.Halls.{Hall as AHall}
 use Rattle.script.specs.declared.command.Command.{Command}
 use Rattle.script.specs.declared.command.Command.TheVariants.{SetUp, Issue, Read, Write, Deliver, CallOff, Collect, Meddle}
 use Rattle.runner.specs.declared.fault.ScriptFault.{ScriptFault}
 use Rattle.runner.specs.declared.fault.ScriptFault.TheVariants.{Unreadable, Kind, Hall}
-use Rattle.runner.specs.declared.running.Running.{Running}
 use Rattle.charts.specs.declared.seen.Stay.{Stay}
 use Rattle.charts.specs.declared.seen.Move.{Move}
 use Rattle.charts.specs.Watches.{Seen, with_posts, with_moves, with_works, with_delivery, with_end}
@@ -31,13 +26,13 @@ abbrev pub seat_in : List Seat → ℕ → Option Seat
 seat_in seats client = cond (client == 0) None (slice_get seats (client - 1))
 
 -- the epoch of a party: by the roll, by its seat, by its card
-abbrev pub epoch_in : List Configuration → List Seat → Cabinet → Party → Option ℕ
-epoch_in roll seats store Source = newest roll
-epoch_in roll seats store (AClient c) = option_map (λ (s : Seat). s.line.configuration.epoch) (seat_in seats c.number)
-epoch_in roll seats store (AReplica r) = option_map (λ (card : Card). card.epoch) (kept store r.number)
+abbrev pub epoch_in : List Configuration → List Seat → (ℕ → Option Card) → Party → Option ℕ
+epoch_in roll seats place Source = newest roll
+epoch_in roll seats place (AClient c) = option_map (λ (s : Seat). s.line.configuration.epoch) (seat_in seats c.number)
+epoch_in roll seats place (AReplica r) = option_map (λ (card : Card). card.epoch) (place r.number)
 
-abbrev pub move_in : List Configuration → List Seat → Cabinet → Stay → Move
-move_in roll seats store stay = record { stay = stay; epoch = unwrap_or (epoch_in roll seats store stay.party) stay.epoch }
+abbrev pub move_in : List Configuration → List Seat → (ℕ → Option Card) → Stay → Move
+move_in roll seats place stay = record { stay = stay; epoch = unwrap_or (epoch_in roll seats place stay.party) stay.epoch }
 
 abbrev pub is_step : HallFault → Bool
 is_step (Step entry fault) = true
@@ -66,21 +61,10 @@ with_command w seats (Some (CallOff client)) fault row = cond (is_some fault) w 
 with_command w seats (Some (Collect client)) fault row = w
 with_command w seats (Some (Meddle party entry)) fault row = w
 
--- what the tables and the store show
-pub record View : Type 0 where
-  pub post : List Entry
-  pub log : List Operation
-  pub roll : List Configuration
-  pub seats : List Seat
-  pub store : Cabinet
-
-abbrev pub view : Running → View
-view r = record { post = held r.tables.post; log = held r.tables.log; roll = held r.tables.roll; seats = r.tables.seats.now; store = r.store }
-
--- what is known after a row that has left them so
-abbrev pub looked : Seen → View → ℕ → Seen
-looked w v row = with_works (with_moves (with_posts w v.post row) (map (move_in v.roll v.seats v.store) w.stays) row) v.log row
+-- what is known after a row that has left the hall so
+abbrev pub looked : Seen → AHall → ℕ → Seen
+looked w h row = with_works (with_moves (with_posts w h.post.list row) (map (move_in h.roll.list h.seats h.place) w.stays) row) h.log.list row
 
 -- the same, where this was asked for in the row, and done or refused
-abbrev pub noticed : Seen → View → Option Command → Option ScriptFault → ℕ → Seen
-noticed w v asked fault row = with_command (looked w v row) v.seats asked fault row
+abbrev pub noticed : Seen → AHall → Option Command → Option ScriptFault → ℕ → Seen
+noticed w h asked fault row = with_command (looked w h row) h.seats asked fault row

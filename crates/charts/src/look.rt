@@ -1,5 +1,6 @@
 // What the tables and the store show after a line, and what a line by itself adds to a chart.
 ghost use Rattle.std.specs.Prelude.{◌≡◌, IfOk, OnOk, map};
+ghost use Rattle.stores.specs.Cabinets.{kept};
 ghost use Rattle.charts.specs.Watches.{seen};
 ghost use Rattle.charts.specs.Looks.{seat_in, newest, epoch_in, move_in, is_handed, with_call_off, with_command};
 
@@ -32,7 +33,7 @@ fn seat_of(seats: &[Seat], client: u64) -> Option<Seat>
 
 // The epoch that a party is in: by the roll for the source, by its seat or its card for another.
 fn epoch_of(roll: &[Configuration], seats: &[Seat], store: &Cabinet, party: Party) -> Option<u32>
-    ensures { result ≡ epoch_in roll.now seats.now store.now party }
+    ensures { result ≡ epoch_in roll.now seats.now (kept store.now) party }
 {
     match party {
         Party::Source => newest(roll),
@@ -55,7 +56,7 @@ pub(crate) fn moves(
     store: &Cabinet,
     stays: &[Stay],
 ) -> Result<Vec<Move>, AllocError>
-    ensures { IfOk result (λ v. v.items ≡ map (move_in roll.now seats.now store.now) stays.now) }
+    ensures { IfOk result (λ v. v.items ≡ map (move_in roll.now seats.now (kept store.now)) stays.now) }
 {
     let mut moves = Vec::new(heap);
     for stay in stays {

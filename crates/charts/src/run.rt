@@ -1,10 +1,17 @@
 // The chart of a script: its lines are run one after the other, and the tables and the store are looked at after each.
-ghost use Rattle.std.specs.Prelude.{◌≡◌, IfOk, OnOk, string_bytes};
+ghost use Rattle.std.specs.Prelude.{◌≡◌, ◌+◌, length, take, IfOk, OnOk, string_bytes};
+ghost use Rattle.std.specs.Vec.{vec_items};
 ghost use Rattle.fields.specs.Parts.{fields};
 ghost use Rattle.script.specs.Commands.{command_in};
-ghost use Rattle.charts.specs.Charts.{IsChart};
+ghost use Rattle.runner.specs.Asks.{asks};
+ghost use Rattle.runner.specs.Plays.{Does};
+ghost use Rattle.runner.specs.Left.{left};
+ghost use Rattle.runner.specs.Outputs.{all_refused};
+ghost use Rattle.runner.specs.Texts.{limit, script_lines, Countable};
+ghost use Rattle.runner.specs.Views.{world};
+ghost use Rattle.charts.specs.Drawings.{Seeing, Draws, Charts};
 ghost use Rattle.charts.specs.Watches.{seen, unopened_text};
-ghost use Rattle.charts.specs.Looks.{view, looked, noticed};
+ghost use Rattle.charts.specs.Looks.{looked, noticed};
 
 use crate::caption::Caption;
 use crate::chart::Chart;
@@ -16,7 +23,9 @@ use halls::HallFault;
 use lists::List;
 use refusals::{Fault, Refusal};
 use register::Tables;
-use runner::{LIMIT, Memory, Numbered, Running, SEALS, ScriptFault, first_set_up, numbered, open};
+use runner::{
+    LIMIT, Memory, Numbered, Running, SEALS, ScriptFault, first_set_up, numbered, open, refuse_all,
+};
 use script::{Command, SetUp};
 use sealers::Book;
 use std::alloc::{AllocError, Global};
@@ -24,7 +33,7 @@ use stores::Cabinet;
 
 // Looks at the tables and the store after a row.
 fn look(heap: Global, watch: &mut Watch, running: &Running, row: u16) -> Result<(), AllocError>
-    ensures { OnOk result (seen watch.new ≡ looked (seen watch.old) (view running.now) row) }
+    ensures { OnOk result (seen watch.new ≡ looked (seen watch.old) (world running.now).hall row) }
 {
     let tables = &running.tables;
     let moves = moves(
@@ -48,7 +57,7 @@ fn note(
     fault: Option<ScriptFault>,
     row: u16,
 ) -> Result<(), AllocError>
-    ensures { OnOk result (seen watch.new ≡ noticed (seen watch.old) (view running.now) asked fault row) }
+    ensures { OnOk result (seen watch.new ≡ noticed (seen watch.old) (world running.now).hall asked fault row) }
 {
     look(heap, watch, running, row)?;
     command(watch, running.tables.seats, asked, fault, row)
@@ -62,11 +71,36 @@ fn take(
     line: &[u8],
     row: u16,
 ) -> Result<Option<ScriptFault>, AllocError>
-    ensures { IfOk result (λ fault. seen watch.new ≡ noticed (seen watch.old) (view running.new) (command_in (fields line.now)) fault row) }
+    ensures does { IfOk result (λ fault. Does (world running.old) (asks (world running.old).hall (command_in (fields line.now))) fault (world running.new)) }
+    ensures sees { IfOk result (λ fault. seen watch.new ≡ noticed (seen watch.old) (world running.new).hall (command_in (fields line.now)) fault row) }
 {
     let fault = running.take(line).err();
     note(heap, watch, running, Command::read(line), fault, row)?;
     Ok(fault)
+}
+
+// Runs the lines behind the one of this number, and answers the number of the last.
+fn watch_lines(
+    heap: Global,
+    watch: &mut Watch,
+    running: &mut Running,
+    number: u64,
+    lines: Numbered,
+    refusals: &mut Vec<Refusal>,
+) -> Result<u64, AllocError>
+    requires few { Countable (left lines.a lines.b.start) }
+    requires follows { lines.b.start ≡ number + 1 }
+    ensures last { IfOk result (λ last. last ≡ number + length (left lines.entry.a lines.entry.b.start).lines) }
+    ensures sees { IfOk result (λ last. Seeing (left lines.entry.a lines.entry.b.start) (world running.old) (vec_items refusals.old) (seen watch.old) (world running.new) (vec_items refusals.new) (seen watch.new)) }
+{
+    let mut last = number;
+    for (line, number) in lines {
+        if let Some(fault) = take(heap, watch, running, line, row_of(number))? {
+            refusals.push(fault.told().at(number))?;
+        }
+        last = number;
+    }
+    Ok(last)
 }
 
 // The chart of a script without a hall: all its lines were refused.
@@ -85,7 +119,7 @@ fn unopened(heap: Global, refusals: &[Refusal]) -> Result<String, AllocError>
     chart.drawn(heap, layout)
 }
 
-// The chart of a script whose set-up is refused: so are the lines behind it.
+// The chart of a script whose set-up, in the line of this number, is refused.
 fn refused(
     heap: Global,
     number: u64,
@@ -93,33 +127,11 @@ fn refused(
     lines: Numbered,
     mut refusals: Vec<Refusal>,
 ) -> Result<String, AllocError>
-    ensures { IfOk result (λ s. IsChart (string_bytes s)) }
+    requires { Countable (left lines.a lines.b.start) }
+    ensures { IfOk result (λ s. string_bytes s ≡ unopened_text (all_refused number (left lines.entry.a lines.entry.b.start) (vec_items refusals) fault)) }
 {
-    refusals.push(fault.told().at(number))?;
-    for (_, number) in lines {
-        refusals.push(ScriptFault::Unreadable.told().at(number))?;
-    }
+    refuse_all(number, fault, lines, &mut refusals)?;
     unopened(heap, refusals.as_slice())
-}
-
-// Runs the lines that are left, and draws what was seen of all.
-fn run(
-    heap: Global,
-    mut watch: Watch,
-    running: &mut Running,
-    lines: Numbered,
-    mut refusals: Vec<Refusal>,
-) -> Result<String, AllocError>
-    ensures { IfOk result (λ s. IsChart (string_bytes s)) }
-{
-    let mut last = watch.layout.rows;
-    for (line, number) in lines {
-        last = row_of(number);
-        if let Some(fault) = take(heap, &mut watch, running, line, last)? {
-            refusals.push(fault.told().at(number))?;
-        }
-    }
-    watch.drawn(heap, last, refusals.as_slice())
 }
 
 // Opens the hall that the line of this number asks for, and runs the lines behind it.
@@ -128,9 +140,11 @@ fn opened(
     number: u64,
     asked: SetUp,
     lines: Numbered,
-    refusals: Vec<Refusal>,
+    mut refusals: Vec<Refusal>,
 ) -> Result<String, AllocError>
-    ensures { IfOk result (λ s. IsChart (string_bytes s)) }
+    requires few { Countable (left lines.a lines.b.start) }
+    requires follows { lines.b.start ≡ number + 1 }
+    ensures { IfOk result (λ s. Draws asked number (left lines.entry.a lines.entry.b.start) (vec_items refusals) (string_bytes s)) }
 {
     let mut memory = Memory::new(heap)?;
     let clients = memory.seats.len().min(asked.clients as usize);
@@ -147,14 +161,15 @@ fn opened(
     };
     match open(asked, &mut tables, &mut store, &sealer) {
         Ok(hall) => {
-            let watch = Watch::new(heap, asked, row_of(number))?;
+            let mut watch = Watch::new(heap, asked, row_of(number))?;
             let mut running = Running {
                 hall,
                 tables,
                 store,
                 sealer,
             };
-            run(heap, watch, &mut running, lines, refusals)
+            let last = watch_lines(heap, &mut watch, &mut running, number, lines, &mut refusals)?;
+            watch.drawn(heap, row_of(last), refusals.as_slice())
         }
         Err(fault) => refused(heap, number, fault, lines, refusals),
     }
@@ -162,7 +177,7 @@ fn opened(
 
 // The chart of a script, of which no more than the first bytes are looked at.
 pub fn chart_of(heap: Global, text: &[u8]) -> Result<String, AllocError>
-    ensures { IfOk result (λ s. IsChart (string_bytes s)) }
+    ensures { IfOk result (λ s. Charts (script_lines (take limit text.now)) (string_bytes s)) }
 {
     let mut refusals = Vec::new(heap);
     let mut lines = numbered(&text[..text.len().min(LIMIT as usize)]);
