@@ -1,5 +1,5 @@
 -- The begin and the step of a client: what they answer, and what they leave of its line and of the sealer.
-use Rattle.std.specs.Prelude.{◌≡◌, ℕ, ◌+◌, Bool, cond, not, ◌&&◌, is_some, Some, Ok, Err, Option, Result, ◌==◌, nat_lt}
+use Rattle.std.specs.Prelude.{ℕ, ◌+◌, Bool, cond, not, ◌&&◌, is_some, Some, Ok, Err, Option, Result, ◌==◌, nat_lt}
 use Rattle.kinds.specs.declared.word.Word.{Word}
 use Rattle.wire.specs.declared.entry.Entry.{Entry}
 use Rattle.wire.specs.declared.pair.Seal.{Seal}
@@ -8,7 +8,7 @@ use Rattle.wire.specs.Texts.{pair_text}
 use Rattle.wire.specs.Parties.{Client}
 use Rattle.sealers.specs.declared.fault.SealerFault.{SealerFault}
 use Rattle.sealers.specs.declared.fault.SealerFault.TheVariants.{NoSeal}
-use Rattle.sealers.specs.Sealing.{Desk, Sealed, sealed, GenuineAfter}
+use Rattle.sealers.specs.Sealing.{Desk, Sealed, sealed, genuine_after}
 use Rattle.rules.specs.declared.objection.Objection.TheVariants.{TooHigh}
 use Rattle.rules.specs.declared.rules.Rules.{Rules}
 use Rattle.rules.specs.Genuine.{genuine_entry}
@@ -65,15 +65,14 @@ abbrev pub client_stepped : Rules → ℕ → Desk → Client → Line → Entry
 client_stepped rules kind desk client line e =
     acted (decided rules client line e (genuine_entry rules kind desk.genuine e)) kind desk client line
 
--- which seals are genuine afterwards: a text that is sealed makes its seal genuine and leaves the genuine ones so;
--- nothing else changes anything
-abbrev pub GenuineActed : Verdict → ℕ → Desk → (Text → Seal → Bool) → Type 0
-GenuineActed (Err why) kind desk after = after ≡ desk.genuine
-GenuineActed (Ok (Moves next post)) kind desk after = after ≡ desk.genuine
-GenuineActed (Ok (Stamps next)) kind desk after =
+-- which seals are genuine afterwards: those that were, and what comes of sealing a text; nothing else changes anything
+abbrev pub genuine_acted : Verdict → ℕ → Desk → Text → Seal → Bool
+genuine_acted (Err why) kind desk = desk.genuine
+genuine_acted (Ok (Moves next post)) kind desk = desk.genuine
+genuine_acted (Ok (Stamps next)) kind desk =
     let text = pair_text kind next.highest in
-    GenuineAfter desk.genuine text (sealed desk.seals (desk.given text) text).answer after
+    genuine_after desk text (sealed desk.seals (desk.given text) text).answer
 
-abbrev pub GenuineStepped : Rules → ℕ → Desk → Client → Line → Entry → (Text → Seal → Bool) → Type 0
-GenuineStepped rules kind desk client line e after =
-    GenuineActed (decided rules client line e (genuine_entry rules kind desk.genuine e)) kind desk after
+abbrev pub genuine_stepped : Rules → ℕ → Desk → Client → Line → Entry → Text → Seal → Bool
+genuine_stepped rules kind desk client line e =
+    genuine_acted (decided rules client line e (genuine_entry rules kind desk.genuine e)) kind desk

@@ -1,6 +1,6 @@
 // The begin and the step of a client.
 ghost use Rattle.std.specs.Prelude.{◌≡◌};
-ghost use Rattle.clients.specs.Steps.{begun, client_stepped, GenuineStepped};
+ghost use Rattle.clients.specs.Steps.{begun, client_stepped, genuine_stepped};
 
 use crate::fault::ClientFault;
 use crate::line::{Line, Stage};
@@ -44,7 +44,7 @@ pub fn client_step<K: Kind, L: Sealer>(
     sealer: &mut L,
 ) -> Result<Option<Entry>, ClientFault>
     ensures change { record { answer = result; line = line.new; seals = (L.Sealer.desk sealer.new).seals } ≡ client_stepped rules.now K.Kind.NUMBER (L.Sealer.desk sealer.old) client line.old entry.now }
-    ensures grows { GenuineStepped rules.now K.Kind.NUMBER (L.Sealer.desk sealer.old) client line.old entry.now (L.Sealer.desk sealer.new).genuine }
+    ensures grows { (L.Sealer.desk sealer.new).genuine ≡ genuine_stepped rules.now K.Kind.NUMBER (L.Sealer.desk sealer.old) client line.old entry.now }
 {
     let judged = rules.judge::<K, L>(entry, sealer);
     match decide(rules, client, line, &judged) {

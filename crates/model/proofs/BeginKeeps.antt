@@ -4,7 +4,6 @@ use Rattle.std.proofs.Common.{◌≡◌, ℕ, ◌+◌, ◌-◌, ◌<◌, ◌≤�
 use borrow.Author.Tests.{clash}
 use Rattle.kinds.specs.declared.word.Word.{Word}
 use Rattle.wire.specs.declared.entry.Entry.{Entry}
-use Rattle.wire.specs.declared.pair.Seal.{Seal}
 use Rattle.wire.specs.declared.text.Text.{Text}
 use Rattle.wire.specs.Parties.{Client}
 use Rattle.clients.specs.Steps.{reading_next}
@@ -18,7 +17,7 @@ use Rattle.histories.proofs.Posting.{justified_read}
 use Rattle.halls.specs.declared.operation.Operation.{Operation}
 use Rattle.halls.specs.declared.seat.Seat.{Seat}
 use Rattle.model.specs.Tables.{is_full, added}
-use Rattle.model.specs.Halls.{World, no_operation, seat_of, operation_of, with_post, with_seat, with_log, end_of}
+use Rattle.model.specs.Halls.{LeftOpen, World, no_operation, seat_of, operation_of, with_post, with_seat, with_log, end_of}
 use Rattle.model.specs.Beginning.{new_operation, word_or_none}
 use Rattle.model.proofs.Frames.{history_added, card_stays, quiet_below, later_configuration, later_seat, later_text}
 use Rattle.model.proofs.Invariants.{views, history, stamp_number, StampedWrite, OverBefore, SettledSomewhere, OperationRule, ReadingRule, SeatRule, LogRule, ends, Holds, Later}
@@ -34,18 +33,17 @@ ends_begun (o ∷ ops) op e = ap (λ n. min 1 (end_of o) + n) (ends_begun ops op
 abbrev pub begin_seat : World → ℕ → Option Word → Seat
 begin_seat w c word = record { line = reading_next (seat_of w.hall c).line word; operation = length w.hall.log.list; lodged = (seat_of w.hall c).lodged }
 
-abbrev pub begin_world : World → Client → Option Word → ℕ → (Text → Seal) → World
-begin_world w client word open_place given = record {
+abbrev pub begin_world : World → Client → Option Word → LeftOpen → World
+begin_world w client word left_open = record {
   hall = with_log
       (with_seat (with_post w.hall (added w.hall.post (read_of client (reading_next (seat_of w.hall client.number).line word)))) client.number (begin_seat w client.number word))
       (added w.hall.log (new_operation client.number word (w.hall.moment + 1)))
       (w.hall.moment + 1);
-  next = open_place;
   genuine = w.genuine;
-  given = given;
+  left_open = left_open;
 }
 
-module _ (kind : ℕ) (sealed : List Text) (w : World) (holds : Holds kind sealed w) (client : Client) (word : Option Word) (open_place : ℕ) (given : Text → Seal)
+module _ (kind : ℕ) (sealed : List Text) (w : World) (holds : Holds kind sealed w) (client : Client) (word : Option Word) (left_open : LeftOpen)
     (low : 1 ≤ client.number) (high : client.number ≤ w.hall.rules.clients)
     (log_room : is_full w.hall.log ≡ false) (post_room : is_full w.hall.post ≡ false)
     (seal : is_some word ≡ true → 0 < w.hall.seals client.number) where
@@ -53,7 +51,7 @@ module _ (kind : ℕ) (sealed : List Text) (w : World) (holds : Holds kind seale
   op = new_operation client.number word (w.hall.moment + 1)
 
   abbrev world : World
-  world = begin_world w client word open_place given
+  world = begin_world w client word left_open
 
   read : Entry
   read = read_of client (reading_next (seat_of w.hall client.number).line word)
@@ -199,7 +197,7 @@ module _ (kind : ℕ) (sealed : List Text) (w : World) (holds : Holds kind seale
         genuine = λ ne. absurd (ne refl);
       }
 
-  pub begin_keeps : Holds kind sealed (begin_world w client word open_place given)
+  pub begin_keeps : Holds kind sealed (begin_world w client word left_open)
   unfolding later_begun history read
   begin_keeps = record {
     sized = let s = holds.sized in record {

@@ -50,7 +50,7 @@ turned w kind client e line post seals stepped = by_verdict (decided w.hall.rule
     by_verdict (Ok (Stamps next)) is a =
         way_in (λ s. signing s client (seat_of w.hall client.number).line next) (eqb (w.hall.seals (pair_text kind next.highest).party) 0) a
         (λ t q. not_ok (ap (λ s. s.answer) q))
-        (λ t q. stamped_to (Stamps next) next (w.given (pair_text kind next.highest)) (client_view _ client _ e _ (Stamps next) is) refl (sym (ap (λ s. s.line) q)))
+        (λ t q. stamped_to (Stamps next) next (w.left_open.given (pair_text kind next.highest)) (client_view _ client _ e _ (Stamps next) is) refl (sym (ap (λ s. s.line) q)))
 
 moves_line : {a c : Line} {b d : Option Entry} → Moves a b ≡ Moves c d → a ≡ c
 moves_line p = cc

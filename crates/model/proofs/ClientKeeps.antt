@@ -14,6 +14,7 @@ use Rattle.sealers.specs.declared.fault.SealerFault.TheVariants.{NoSeal}
 use Rattle.sealers.specs.Sealing.{spent}
 use Rattle.rules.specs.Genuine.{genuine_entry}
 use Rattle.rules.specs.Posts.{config_entry}
+use Rattle.sealers.proofs.Sealing.{remains, given_genuine}
 use Rattle.clients.specs.declared.fault.ClientFault.{ClientFault}
 use Rattle.clients.specs.declared.line.Line.{Line}
 use Rattle.clients.specs.declared.line.Stage.TheVariants.{Writing, WritingBack}
@@ -26,7 +27,7 @@ use Rattle.halls.specs.declared.seat.Seat.{Seat}
 use Rattle.model.specs.Tables.{is_full}
 use Rattle.model.specs.Halls.{World, no_operation, seat_of, operation_of, desk_of}
 use Rattle.model.specs.Answers.{has_moment}
-use Rattle.model.specs.Calls.{text_if_stamped, GenuineThen}
+use Rattle.model.specs.Calls.{text_if_stamped, genuine_then}
 use Rattle.model.specs.Delivering.{entry_of, fits_client, client_moves, client_step_of, has_ended, is_over, is_stamping, is_replica_number, logged, moment_after}
 use Rattle.model.proofs.ClientAsks.{keeps_reread, keeps_rewrite, keeps_back}
 use Rattle.model.proofs.ClientEnds.{ended_op, ends_keeps, ending_read, ending_write}
@@ -53,7 +54,7 @@ client_world w c line post seals genuine = record w { hall = client_moves w.hall
 -- what is to be proved of a step that leaves this line, this entry to post and these seals
 abbrev Kept : ℕ → List Text → World → ℕ → Line → Option Entry → (ℕ → ℕ) → Type 0
 Kept kind sealed w c line post seals =
-    (genuine : Text → Seal → Bool) → GenuineThen (text_if_stamped kind (seat_of w.hall c).line line) w genuine
+    (genuine : Text → Seal → Bool) → genuine ≡ genuine_then (text_if_stamped kind (seat_of w.hall c).line line) w
     → Holds kind (sealed_with (text_if_stamped kind (seat_of w.hall c).line line) sealed) (client_world w c line post seals genuine)
 
 abbrev KeptBy : ℕ → List Text → World → ℕ → Result (Option Entry) ClientFault → Line → (ℕ → ℕ) → Type 0
@@ -83,11 +84,11 @@ module _ (w : World) (c : ℕ) (line : Line) where
     -- a step that seals this text, or none
     kept_by : (text : Option Text) (seals : ℕ → ℕ) (op : Operation) (moment : ℕ) → text_if_stamped kind seat.line line ≡ text
         → logged (operation_of w.hall seat.operation) seat.line line (w.hall.moment + 1) ≡ op → moment_after w.hall.moment seat.line line ≡ moment
-        → ((genuine : Text → Seal → Bool) → GenuineThen text w genuine → Holds kind (sealed_with text sealed) (left_world op moment post seals genuine))
+        → ((genuine : Text → Seal → Bool) → genuine ≡ genuine_then text w → Holds kind (sealed_with text sealed) (left_world op moment post seals genuine))
         → Kept kind sealed w c line post seals
     kept_by text seals op moment told is at held genuine grows =
         subst (λ t. Holds kind (sealed_with t sealed) (client_world w c line post seals genuine)) (sym told)
-        (subst (Holds kind (sealed_with text sealed)) (sym (world_is post seals genuine op moment is at)) (held genuine (subst (λ t. GenuineThen t w genuine) told grows)))
+        (subst (Holds kind (sealed_with text sealed)) (sym (world_is post seals genuine op moment is at)) (held genuine (subst (λ t. genuine ≡ genuine_then t w) told grows)))
 
     -- the log stays as it is, and nothing is sealed
     quiet_kept : has_ended seat.line line ≡ false → is_stamping seat.line.stage line.stage ≡ false
@@ -108,7 +109,7 @@ module _ (w : World) (c : ℕ) (line : Line) where
 
     -- the operation takes its stamp
     stamps_kept : (seals : ℕ → ℕ) → has_ended seat.line line ≡ false → is_stamping seat.line.stage line.stage ≡ true
-        → ((genuine : Text → Seal → Bool) → GenuineThen (Some (pair_text kind line.highest)) w genuine
+        → ((genuine : Text → Seal → Bool) → genuine ≡ genuine_then (Some (pair_text kind line.highest)) w
         → Holds kind (pair_text kind line.highest ∷ sealed) (left_world (stamped_op w seat line) w.hall.moment post seals genuine))
         → Kept kind sealed w c line post seals
     stamps_kept seals going stamps = kept_by (Some (pair_text kind line.highest)) seals (stamped_op w seat line) w.hall.moment (rw stamps refl) (rw (going, stamps) refl) (rw going refl)
@@ -146,16 +147,16 @@ module _ {kind : ℕ} {sealed : List Text} {w : World} (holds : Holds kind seale
       → is_quorum w.hall.rules (heard (line_of w client) (entry_of w.hall n) from) ≡ true → (line_of w client).word ≡ Some word
       → KeptAfter kind sealed w client.number
       (signing (cond empty (record { answer = Err (NoSeal client.number); seals = w.hall.seals })
-      (record { answer = Ok (w.given (pair_text kind (forward client (heard (line_of w client) (entry_of w.hall n) from) word).highest)); seals = spent w.hall.seals client.number }))
+      (record { answer = Ok (w.left_open.given (pair_text kind (forward client (heard (line_of w client) (entry_of w.hall n) from) word).highest)); seals = spent w.hall.seals client.number }))
       client (line_of w client) (forward client (heard (line_of w client) (entry_of w.hall n) from) word))
   sealing true from word h large is = tt
   sealing false from word h large is =
-      let seal = w.given (pair_text kind (forward client (heard (line_of w client) (entry_of w.hall n) from) word).highest) in
+      let seal = w.left_open.given (pair_text kind (forward client (heard (line_of w client) (entry_of w.hall n) from) word).highest) in
       let line = with_seal (forward client (heard (line_of w client) (entry_of w.hall n) from) word) seal in
       stamps_kept w client.number line kind sealed (Some (write_of client line)) (spent w.hall.seals client.number) refl (ap (λ s. is_stamping s Writing) h.stage)
       (λ genuine grows. stamps_keep holds client within (seat_of w.hall client.number) own_rule room word line.highest
       (stamping holds client within (seat_of w.hall client.number) own_rule small unforged n lt (pair_to h) from word seal h large is)
-      (spent w.hall.seals client.number) genuine grows.1 grows.0 enough)
+      (spent w.hall.seals client.number) genuine (remains (desk_of w) (pair_text kind line.highest) genuine grows) (given_genuine (desk_of w) (pair_text kind line.highest) genuine grows) enough)
     where
       enough : (d : ℕ) → (d ≡ client.number → ⊥) → w.hall.seals d ≤ spent w.hall.seals client.number d
       enough d ne = rw (ne_eqb d client.number ne) (omega arith)
@@ -214,7 +215,7 @@ pub client_keeps : (kind : ℕ) (sealed : List Text) (w : World) → kind ≤ 63
     → (line : Line) (post : Option Entry) (seals : ℕ → ℕ)
     → client_step_of w kind client (entry_of w.hall n) ≡ record { answer = Ok post; line = line; seals = seals }
     → (genuine : Text → Seal → Bool)
-    → GenuineThen (text_if_stamped kind (seat_of w.hall client.number).line line) w genuine
+    → genuine ≡ genuine_then (text_if_stamped kind (seat_of w.hall client.number).line line) w
     → Holds kind (sealed_with (text_if_stamped kind (seat_of w.hall client.number).line line) sealed) (client_world w client.number line post seals genuine)
 client_keeps kind sealed w small holds unforged n lt client within room moment fits line post seals stepped genuine grows =
     subst (KeptAfter kind sealed w client.number) stepped

@@ -75,7 +75,7 @@ pub data Effect {V : Type 0} (kind : Kind V) (w : World) (call : Call V) (a : An
   -- refused
   stands : (f : HallFault) → a ≡ refused f → w.hall ≡ h' → Effect kind w call a h'
   issues : (set : ReplicaSet) → call ≡ issue set → Issuable w set
-      → issuing (Ok (record { epoch = w.hall.source.newest + 1; set = set; seal = w.given (next_text w.hall.source set) })) (record { newest = w.hall.source.newest + 1 }) (spent w.hall.seals 0) w.hall ≡ record { answer = a; hall = h' }
+      → issuing (Ok (record { epoch = w.hall.source.newest + 1; set = set; seal = w.left_open.given (next_text w.hall.source set) })) (record { newest = w.hall.source.newest + 1 }) (spent w.hall.seals 0) w.hall ≡ record { answer = a; hall = h' }
       → Effect kind w call a h'
   starts : (client : Client) (word : Option Word) → BeginCall kind call client.number word → Beginnable w client.number word
       → beginning (Ok (read_of client (reading_next (seat_of w.hall client.number).line word))) (reading_next (seat_of w.hall client.number).line word) client word w.hall ≡ record { answer = a; hall = h' }

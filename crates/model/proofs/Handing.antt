@@ -186,7 +186,7 @@ module _ {V : Type 0} (kind : Kind V) (sealed : List Text) (w : World) (holds : 
         (sym (turned_seat next post w.hall.seals (sym (ap (λ v. client_done (acted v kind.number (desk_of w) client line) number w.hall client) is) ∙ told))) counts
     turn_line (Stamps next) move is n counts =
         let text = pair_text kind.number next.highest in
-        let seal = w.given text in
+        let seal = w.left_open.given text in
         subst (λ l. Counts line l n)
         (sym (turned_seat (sealed_with next seal) (Some (write_of client (sealed_with next seal))) (spent w.hall.seals text.party)
         (sym (ap (λ v. client_done (acted v kind.number (desk_of w) client line) number w.hall client) is

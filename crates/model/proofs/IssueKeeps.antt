@@ -17,7 +17,7 @@ use Rattle.histories.specs.Histories.{Good}
 use Rattle.histories.proofs.Extension.{good_extends}
 use Rattle.histories.proofs.Posting.{justified_unruled}
 use Rattle.model.specs.Tables.{is_full, added}
-use Rattle.model.specs.Halls.{World, no_configuration, seat_of, with_post, with_seals, with_source}
+use Rattle.model.specs.Halls.{LeftOpen, World, no_configuration, seat_of, with_post, with_seals, with_source}
 use Rattle.model.specs.Issuing.{is_right_set, has_too_many_marked}
 use Rattle.model.proofs.Frames.{history_added, later_views, card_stays, quiet_below, seat_stays, later_text}
 use Rattle.model.proofs.Invariants.{views, history, issued_as, Sized, RollRule, KnownText, of_configuration, Holds, Later}
@@ -26,23 +26,22 @@ use Rattle.model.proofs.Posts.{post_added, log_stays, answers_posted, no_answer,
 use Rattle.model.proofs.Tables.{before_end, at_end, places_added, each_with}
 
 -- the world after the source has issued a configuration
-abbrev pub issue_world : World → Source → Configuration → (ℕ → ℕ) → ℕ → (Text → Seal → Bool) → (Text → Seal) → World
-issue_world w source c seals open_place genuine given = record {
+abbrev pub issue_world : World → Source → Configuration → (ℕ → ℕ) → LeftOpen → (Text → Seal → Bool) → World
+issue_world w source c seals left_open genuine = record {
   hall = with_seals (with_source (with_post w.hall (added w.hall.post (config_entry 0 c))) source (added w.hall.roll c)) seals;
-  next = open_place;
   genuine = genuine;
-  given = given;
+  left_open = left_open;
 }
 
 module _ (kind : ℕ) (sealed : List Text) (w : World) (holds : Holds kind sealed w) (source : Source) (c : Configuration) (seals : ℕ → ℕ)
-    (open_place : ℕ) (genuine : Text → Seal → Bool) (given : Text → Seal)
+    (left_open : LeftOpen) (genuine : Text → Seal → Bool)
     (epoch : c.epoch ≡ w.hall.source.newest + 1) (newest : source.newest ≡ w.hall.source.newest + 1)
     (right : is_right_set w.hall.rules c.set.0 ≡ true)
     (few : has_too_many_marked w.hall.rules w.hall.marked c.set.0 ≡ false)
     (roll_room : is_full w.hall.roll ≡ false) (post_room : is_full w.hall.post ≡ false)
     (monotone : (t : Text) (s : Seal) → w.genuine t s ≡ true → genuine t s ≡ true)
     (kept : (p : ℕ) → 1 ≤ p → seals p ≡ w.hall.seals p) where
-  later_issued : Later w (issue_world w source c seals open_place genuine given)
+  later_issued : Later w (issue_world w source c seals left_open genuine)
   unfolding post_added
   later_issued = record {
     rolls = record { rules = refl; marked = refl; issued = simp length-append (omega arith); roll = λ e lt. before_end w.hall.roll.list c no_configuration e lt };
@@ -69,7 +68,7 @@ module _ (kind : ℕ) (sealed : List Text) (w : World) (holds : Holds kind seale
     inside = each_issued (λ e z. z.set.0 < 2 ^ w.hall.rules.replicas) holds.roll.inside (right_below w.hall.rules c.set.0 right);
   }
 
-  sized_issued : Sized (issue_world w source c seals open_place genuine given).hall
+  sized_issued : Sized (issue_world w source c seals left_open genuine).hall
   sized_issued = let s = holds.sized in record {
     tables = rw (places_added w.hall.post (config_entry 0 c) post_room, places_added w.hall.roll c roll_room) s.tables;
     limits = s.limits;
@@ -78,24 +77,24 @@ module _ (kind : ℕ) (sealed : List Text) (w : World) (holds : Holds kind seale
   }
 
   -- the text that was sealed is that of the new configuration
-  pub issue_keeps : (t : Text) → t ≡ configuration_text c → Holds kind (t ∷ sealed) (issue_world w source c seals open_place genuine given)
+  pub issue_keeps : (t : Text) → t ≡ configuration_text c → Holds kind (t ∷ sealed) (issue_world w source c seals left_open genuine)
   unfolding later_issued history
   issue_keeps t text = record {
     sized = sized_issued;
     roll = roll_issued;
-    good = subst (λ h. Good (views (issue_world w source c seals open_place genuine given).hall) h) (sym (history_added w.hall (config_entry 0 c)))
+    good = subst (λ h. Good (views (issue_world w source c seals left_open genuine).hall) h) (sym (history_added w.hall (config_entry 0 c)))
         (next (justified_unruled (omega arith)) (good_extends (later_views later_issued) holds.good));
-    answers = answers_posted kind w (issue_world w source c seals open_place genuine given) (config_entry 0 c) later_issued refl (no_answer kind _ _ (λ e. omega arith) (λ e. omega arith)) holds.answers;
+    answers = answers_posted kind w (issue_world w source c seals left_open genuine) (config_entry 0 c) later_issued refl (no_answer kind _ _ (λ e. omega arith) (λ e. omega arith)) holds.answers;
     cards = λ q lt. card_stays kind q later_issued refl (next (quiet_below (omega arith)) done) (holds.cards q lt);
     seats = λ p low high. seat_stays kind p (seat_of w.hall p) later_issued refl (next (record { not_read = λ e k. omega arith; not_write = λ e k. omega arith }) done) holds.log
         (le_of_eq (sym (kept p low))) (holds.seats p low high);
-    log = log_later w (issue_world w source c seals open_place genuine given) later_issued refl refl holds.log;
+    log = log_later w (issue_world w source c seals left_open genuine) later_issued refl refl holds.log;
     texts = λ u m. known u (Memᴰ.cases_cons m);
   }
     where
-      new_text : t ≡ configuration_text (issued_as (issue_world w source c seals open_place genuine given).hall (length w.hall.roll.list))
+      new_text : t ≡ configuration_text (issued_as (issue_world w source c seals left_open genuine).hall (length w.hall.roll.list))
       new_text = text ∙ ap configuration_text (sym (at_end w.hall.roll.list c no_configuration))
 
-      known : (u : Text) → (u ≡ t) ⊎ (Memᴰ u sealed) → KnownText kind (issue_world w source c seals open_place genuine given).hall u
+      known : (u : Text) → (u ≡ t) ⊎ (Memᴰ u sealed) → KnownText kind (issue_world w source c seals left_open genuine).hall u
       known u (inl e) = of_configuration (length w.hall.roll.list) (simp length-append (omega arith)) (e ∙ new_text)
       known u (inr m) = later_text kind later_issued u (holds.texts u m)

@@ -37,6 +37,7 @@ pub mod Handing
 pub mod Asked
 pub mod Growing
 pub mod Trace
+pub mod Unforged
 pub mod Images
 pub mod Linear
 pub mod Responding

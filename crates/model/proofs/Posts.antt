@@ -3,7 +3,6 @@
 use Rattle.std.proofs.Common.{◌≡◌, ℕ, ◌-◌, ◌<◌, ◌≤◌, false, cond, List, [], ◌∷◌, ◌++◌, length, get_or, Some, Option, sym, refl, ap, ◌∙◌, subst, arith, length-append, eq-eqb, ne_eqb}
 use native.Mathlib.Decide.{ℕ_discrete}
 use Rattle.wire.specs.declared.entry.Entry.{Entry}
-use Rattle.wire.specs.declared.pair.Seal.{Seal}
 use Rattle.wire.specs.declared.text.Text.{Text}
 use Rattle.stores.specs.declared.card.Card.{Card}
 use Rattle.stores.specs.Saved.{put}
@@ -14,7 +13,7 @@ use Rattle.histories.proofs.Extension.{settled_extends}
 use Rattle.histories.proofs.Growth.{settled_grows}
 use Rattle.halls.specs.declared.seat.Seat.{Seat}
 use Rattle.model.specs.Tables.{is_full, added}
-use Rattle.model.specs.Halls.{Hall, World, no_entry, no_operation, no_seat, seat_of, operation_of, with_post, with_store}
+use Rattle.model.specs.Halls.{Hall, LeftOpen, World, no_entry, no_operation, no_seat, seat_of, operation_of, with_post, with_store}
 use Rattle.model.specs.Delivering.{entry_of}
 use Rattle.model.proofs.Frames.{card_kept, history_added, later_past, later_pair, later_text, later_views, later_answer, seat_stays, QuietClient}
 use Rattle.model.proofs.Invariants.{views, history, stamp_number, StampedWrite, OverBefore, Sized, CardRule, CardOf, AnswerRule, OperationRule, SettledSomewhere, SeatRule, LogRule, Holds, RollGrows, PostGrows, LogGrows, Later}
@@ -161,64 +160,63 @@ post_keeps kind sealed w x holds room justified answer cards quiet = record {
     l = later_posted w x
 
 -- the world with other seats, another store, other seals left, and what is open otherwise
-abbrev pub aside : World → List Seat → (ℕ → Option Card) → Option ℕ → (ℕ → ℕ) → ℕ → (Text → Seal) → World
-aside w seats place saves seals open_place given = record {
+abbrev pub aside : World → List Seat → (ℕ → Option Card) → Option ℕ → (ℕ → ℕ) → LeftOpen → World
+aside w seats place saves seals left_open = record {
   hall = record w.hall { seats = seats; place = place; saves = saves; seals = seals };
-  next = open_place;
   genuine = w.genuine;
-  given = given;
+  left_open = left_open;
 }
 
-unfoldable pub later_aside : (w : World) (seats : List Seat) (place : ℕ → Option Card) (saves : Option ℕ) (seals : ℕ → ℕ) (open_place : ℕ) (given : Text → Seal) → Later w (aside w seats place saves seals open_place given)
+unfoldable pub later_aside : (w : World) (seats : List Seat) (place : ℕ → Option Card) (saves : Option ℕ) (seals : ℕ → ℕ) (left_open : LeftOpen) → Later w (aside w seats place saves seals left_open)
 unfolding post_stays
-later_aside w seats place saves seals open_place given = record { rolls = roll_stays w.hall; posts = post_stays w.hall; logs = log_stays w.hall; genuine = λ t s g. g }
+later_aside w seats place saves seals left_open = record { rolls = roll_stays w.hall; posts = post_stays w.hall; logs = log_stays w.hall; genuine = λ t s g. g }
 
 -- seats, cards and seals change, each of them by its rule; nothing is posted or logged
-pub aside_keeps : (kind : ℕ) (sealed : List Text) (w : World) (seats : List Seat) (place : ℕ → Option Card) (saves : Option ℕ) (seals : ℕ → ℕ) (open_place : ℕ) (given : Text → Seal)
+pub aside_keeps : (kind : ℕ) (sealed : List Text) (w : World) (seats : List Seat) (place : ℕ → Option Card) (saves : Option ℕ) (seals : ℕ → ℕ) (left_open : LeftOpen)
     → Holds kind sealed w → length seats ≡ length w.hall.seats
-    → ((q : ℕ) → q < w.hall.rules.replicas → CardOf kind (aside w seats place saves seals open_place given) q)
-    → ((c : ℕ) → 1 ≤ c → c ≤ w.hall.rules.clients → SeatRule kind (aside w seats place saves seals open_place given) c (get_or seats (c - 1) no_seat))
-    → Holds kind sealed (aside w seats place saves seals open_place given)
+    → ((q : ℕ) → q < w.hall.rules.replicas → CardOf kind (aside w seats place saves seals left_open) q)
+    → ((c : ℕ) → 1 ≤ c → c ≤ w.hall.rules.clients → SeatRule kind (aside w seats place saves seals left_open) c (get_or seats (c - 1) no_seat))
+    → Holds kind sealed (aside w seats place saves seals left_open)
 unfolding later_aside history
-aside_keeps kind sealed w seats place saves seals open_place given holds same cards rules = record {
+aside_keeps kind sealed w seats place saves seals left_open holds same cards rules = record {
   sized = let s = holds.sized in record { tables = rw same s.tables; limits = s.limits; post_limit = s.post_limit; log_limit = s.log_limit };
   roll = holds.roll;
   good = holds.good;
   answers = λ n lt. later_answer kind l (entry_of w.hall n) (holds.answers n lt);
   cards = cards;
   seats = rules;
-  log = log_later w (aside w seats place saves seals open_place given) l refl refl holds.log;
+  log = log_later w (aside w seats place saves seals left_open) l refl refl holds.log;
   texts = λ t m. later_text kind l t (holds.texts t m);
 }
   where
-    l : Later w (aside w seats place saves seals open_place given)
-    l = later_aside w seats place saves seals open_place given
+    l : Later w (aside w seats place saves seals left_open)
+    l = later_aside w seats place saves seals left_open
 
 -- a seat that stays, of a client that keeps its seals
-pub seat_aside : (kind : ℕ) (sealed : List Text) (w : World) (seats : List Seat) (place : ℕ → Option Card) (saves : Option ℕ) (seals : ℕ → ℕ) (open_place : ℕ) (given : Text → Seal)
+pub seat_aside : (kind : ℕ) (sealed : List Text) (w : World) (seats : List Seat) (place : ℕ → Option Card) (saves : Option ℕ) (seals : ℕ → ℕ) (left_open : LeftOpen)
     → Holds kind sealed w → (c : ℕ) → 1 ≤ c → c ≤ w.hall.rules.clients → w.hall.seals c ≤ seals c
-    → SeatRule kind (aside w seats place saves seals open_place given) c (seat_of w.hall c)
+    → SeatRule kind (aside w seats place saves seals left_open) c (seat_of w.hall c)
 unfolding later_aside history
-seat_aside kind sealed w seats place saves seals open_place given holds c low high more =
-    seat_stays kind c (seat_of w.hall c) (later_aside w seats place saves seals open_place given) refl done holds.log more (holds.seats c low high)
+seat_aside kind sealed w seats place saves seals left_open holds c low high more =
+    seat_stays kind c (seat_of w.hall c) (later_aside w seats place saves seals left_open) refl done holds.log more (holds.seats c low high)
 
 -- a card that stays
-pub card_aside : (kind : ℕ) (w : World) (seats : List Seat) (place : ℕ → Option Card) (saves : Option ℕ) (seals : ℕ → ℕ) (open_place : ℕ) (given : Text → Seal)
-    (q : ℕ) (card : Card) → CardRule kind w q card → CardRule kind (aside w seats place saves seals open_place given) q card
+pub card_aside : (kind : ℕ) (w : World) (seats : List Seat) (place : ℕ → Option Card) (saves : Option ℕ) (seals : ℕ → ℕ) (left_open : LeftOpen)
+    (q : ℕ) (card : Card) → CardRule kind w q card → CardRule kind (aside w seats place saves seals left_open) q card
 unfolding later_aside history
-card_aside kind w seats place saves seals open_place given q card rule =
-    card_kept (later_aside w seats place saves seals open_place given) (λ e t s. rule.served s) (λ r a s t. rule.stocked t) rule
+card_aside kind w seats place saves seals left_open q card rule =
+    card_kept (later_aside w seats place saves seals left_open) (λ e t s. rule.served s) (λ r a s t. rule.stocked t) rule
 
 -- one card is replaced
 pub card_keeps : (kind : ℕ) (sealed : List Text) (w : World) (q : ℕ) (card : Card) (saves : Option ℕ) → Holds kind sealed w
     → (Honest (views w.hall) q → CardRule kind w q card) → Holds kind sealed (saved_in w (put w.hall.place q card) saves)
 card_keeps kind sealed w q card saves holds rule =
-    aside_keeps kind sealed w w.hall.seats (put w.hall.place q card) saves w.hall.seals w.next w.given holds refl
+    aside_keeps kind sealed w w.hall.seats (put w.hall.place q card) saves w.hall.seals w.left_open holds refl
     (λ n lt. by_number n lt (ℕ_discrete n q))
-    (λ c low high. seat_aside kind sealed w w.hall.seats (put w.hall.place q card) saves w.hall.seals w.next w.given holds c low high (omega arith))
+    (λ c low high. seat_aside kind sealed w w.hall.seats (put w.hall.place q card) saves w.hall.seals w.left_open holds c low high (omega arith))
   where
     carried : (n : ℕ) (other : Card) → CardRule kind w n other → CardRule kind (saved_in w (put w.hall.place q card) saves) n other
-    carried n other r = card_aside kind w w.hall.seats (put w.hall.place q card) saves w.hall.seals w.next w.given n other r
+    carried n other r = card_aside kind w w.hall.seats (put w.hall.place q card) saves w.hall.seals w.left_open n other r
 
     by_number : (n : ℕ) → n < w.hall.rules.replicas → Dec (n ≡ q) → CardOf kind (saved_in w (put w.hall.place q card) saves) n
     by_number n lt (yes e) = record {
@@ -233,18 +231,18 @@ card_keeps kind sealed w q card saves holds rule =
     }
 
 -- seats change, each by its rule, and what is open is otherwise
-pub seats_keep : (kind : ℕ) (sealed : List Text) (w : World) (seats : List Seat) (open_place : ℕ) (given : Text → Seal)
+pub seats_keep : (kind : ℕ) (sealed : List Text) (w : World) (seats : List Seat) (left_open : LeftOpen)
     → Holds kind sealed w → length seats ≡ length w.hall.seats
-    → ((c : ℕ) → 1 ≤ c → c ≤ w.hall.rules.clients → SeatRule kind (aside w seats w.hall.place w.hall.saves w.hall.seals open_place given) c (get_or seats (c - 1) no_seat))
-    → Holds kind sealed (aside w seats w.hall.place w.hall.saves w.hall.seals open_place given)
-seats_keep kind sealed w seats open_place given holds same rules =
-    aside_keeps kind sealed w seats w.hall.place w.hall.saves w.hall.seals open_place given holds same
-    (λ q lt. let c = holds.cards q lt in record { card = c.card; kept = c.kept; rule = λ honest. card_aside kind w seats w.hall.place w.hall.saves w.hall.seals open_place given q c.card (c.rule honest) })
+    → ((c : ℕ) → 1 ≤ c → c ≤ w.hall.rules.clients → SeatRule kind (aside w seats w.hall.place w.hall.saves w.hall.seals left_open) c (get_or seats (c - 1) no_seat))
+    → Holds kind sealed (aside w seats w.hall.place w.hall.saves w.hall.seals left_open)
+seats_keep kind sealed w seats left_open holds same rules =
+    aside_keeps kind sealed w seats w.hall.place w.hall.saves w.hall.seals left_open holds same
+    (λ q lt. let c = holds.cards q lt in record { card = c.card; kept = c.kept; rule = λ honest. card_aside kind w seats w.hall.place w.hall.saves w.hall.seals left_open q c.card (c.rule honest) })
     rules
 
 -- what store and sealer leave open does not matter
-pub open_keeps : (kind : ℕ) (sealed : List Text) (w : World) (open_place : ℕ) (given : Text → Seal) → Holds kind sealed w
-    → Holds kind sealed (record w { next = open_place; given = given })
-open_keeps kind sealed w open_place given holds =
-    seats_keep kind sealed w w.hall.seats open_place given holds refl
-    (λ c low high. seat_aside kind sealed w w.hall.seats w.hall.place w.hall.saves w.hall.seals open_place given holds c low high (omega arith))
+pub open_keeps : (kind : ℕ) (sealed : List Text) (w : World) (left_open : LeftOpen) → Holds kind sealed w
+    → Holds kind sealed (record w { left_open = left_open })
+open_keeps kind sealed w left_open holds =
+    seats_keep kind sealed w w.hall.seats left_open holds refl
+    (λ c low high. seat_aside kind sealed w w.hall.seats w.hall.place w.hall.saves w.hall.seals left_open holds c low high (omega arith))

@@ -5,11 +5,15 @@ use Rattle.model.specs.Promise.{Promised}
 use Rattle.model.specs.Runs.{Lawful, Opened}
 use Rattle.model.proofs.InTime.{moments_in_order}
 use Rattle.model.proofs.Linear.{linearizable}
+use Rattle.model.proofs.Unforged.{none_forged}
 use Rattle.model.proofs.Responding.{responsive}
 
 pub promised : {V : Type 0} (kind : Kind V) (v : V) (start : World) → Lawful kind → Opened kind v start.hall → Promised kind v start
 promised kind v start lawful opened = record {
-  one_order = λ run unforged. linearizable kind v start lawful opened run unforged;
-  rounds_end = λ run unforged. responsive kind v start lawful opened run unforged;
-  log_in_time = λ run unforged. moments_in_order kind v start lawful opened run unforged;
+  keeps = λ run unforged. record {
+    one_order = linearizable kind v start lawful opened run unforged;
+    rounds_end = responsive kind v start lawful opened run unforged;
+    log_in_time = moments_in_order kind v start lawful opened run unforged;
+  };
+  unforged = λ run only. none_forged run only;
 }

@@ -60,7 +60,7 @@ did_save : (w : World) (n : ℕ) (card : Card) (said post : Option Entry) (place
 did_save w n card said post place saves e = by_room (none_left w.hall.saves) e
   where
     by_room : (b : Bool)
-        → after_save (cond b (after (Err (NoSave w.next)) w.hall.place w.hall.saves) (after (Ok tt) (put w.hall.place n card) (one_fewer w.hall.saves))) said
+        → after_save (cond b (after (Err (NoSave w.left_open.next)) w.hall.place w.hall.saves) (after (Ok tt) (put w.hall.place n card) (one_fewer w.hall.saves))) said
         ≡ record { answer = Ok post; place = place; saves = saves }
         → DidSave w n card said post place
     by_room true is = not_ok (ap (λ s. s.answer) is)

@@ -2,26 +2,25 @@
 -- The lemmas speak of the hall that each call leaves.
 use Rattle.std.proofs.Common.{ℕ, ◌-◌, ◌≤◌, List, set, Option, sym, refl, arith, length-set}
 use borrow.Author.Tests.{clash}
-use Rattle.wire.specs.declared.pair.Seal.{Seal}
 use Rattle.wire.specs.declared.text.Text.{Text}
 use Rattle.histories.specs.Places.{done}
 use Rattle.halls.specs.declared.seat.Seat.{Seat}
-use Rattle.model.specs.Halls.{World}
+use Rattle.model.specs.Halls.{LeftOpen, World}
 use Rattle.model.specs.Slips.{freed, holding_slip}
 use Rattle.model.proofs.Frames.{seat_stays}
 use Rattle.model.proofs.Invariants.{history, SeatRule, Holds}
 use Rattle.model.proofs.Posts.{aside, later_aside, seat_aside, seats_keep}
 use Rattle.model.proofs.Tables.{seats_with}
 
-pub one_seat_keeps : (kind : ℕ) (sealed : List Text) (w : World) (c : ℕ) (seat : Seat) (open_place : ℕ) (given : Text → Seal)
+pub one_seat_keeps : (kind : ℕ) (sealed : List Text) (w : World) (c : ℕ) (seat : Seat) (left_open : LeftOpen)
     → Holds kind sealed w → 1 ≤ c → c ≤ w.hall.rules.clients → SeatRule kind w c seat
-    → Holds kind sealed (aside w (set w.hall.seats (c - 1) seat) w.hall.place w.hall.saves w.hall.seals open_place given)
+    → Holds kind sealed (aside w (set w.hall.seats (c - 1) seat) w.hall.place w.hall.saves w.hall.seals left_open)
 unfolding later_aside history
-one_seat_keeps kind sealed w c seat open_place given holds low high rule =
-    seats_keep kind sealed w (set w.hall.seats (c - 1) seat) open_place given holds (length-set w.hall.seats (c - 1) seat)
+one_seat_keeps kind sealed w c seat left_open holds low high rule =
+    seats_keep kind sealed w (set w.hall.seats (c - 1) seat) left_open holds (length-set w.hall.seats (c - 1) seat)
     (seats_with c seat holds.sized low high
-    (seat_stays kind c seat (later_aside w (set w.hall.seats (c - 1) seat) w.hall.place w.hall.saves w.hall.seals open_place given) refl done holds.log (omega arith) rule)
-    (λ d dlow dhigh ne. seat_aside kind sealed w (set w.hall.seats (c - 1) seat) w.hall.place w.hall.saves w.hall.seals open_place given holds d dlow dhigh (omega arith)))
+    (seat_stays kind c seat (later_aside w (set w.hall.seats (c - 1) seat) w.hall.place w.hall.saves w.hall.seals left_open) refl done holds.log (omega arith) rule)
+    (λ d dlow dhigh ne. seat_aside kind sealed w (set w.hall.seats (c - 1) seat) w.hall.place w.hall.saves w.hall.seals left_open holds d dlow dhigh (omega arith)))
 
 -- an idle seat is bound by little
 pub freed_rule : {kind : ℕ} {w : World} {c : ℕ} {seat : Seat} → SeatRule kind w c seat → SeatRule kind w c (freed seat)

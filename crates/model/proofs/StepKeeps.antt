@@ -9,12 +9,13 @@ use Rattle.wire.specs.declared.text.Text.{Text}
 use Rattle.wire.specs.Texts.{pair_text}
 use Rattle.stores.specs.declared.card.Card.{Card}
 use Rattle.sealers.specs.Sealing.{spent}
+use Rattle.sealers.proofs.Sealing.{remains}
 use Rattle.clients.specs.declared.line.Line.{Line}
 use Rattle.source.specs.Issued.{next_text}
 use Rattle.halls.specs.declared.fault.HallFault.{HallFault}
-use Rattle.model.specs.Halls.{Hall, World, Kind, seat_of, with_seat, with_store}
+use Rattle.model.specs.Halls.{Hall, World, Kind, desk_of, seat_of, with_seat, with_store}
 use Rattle.model.specs.Answers.{Answer, refused}
-use Rattle.model.specs.Calls.{Call, issue, begin_read, begin_write, deliver, call_off, collect, lodge, redeem, meddle, Step, sealed_in, text_if_done, text_if_stamped, GenuineThen}
+use Rattle.model.specs.Calls.{Call, issue, begin_read, begin_write, deliver, call_off, collect, lodge, redeem, meddle, Step, sealed_in, text_if_done, text_if_stamped, genuine_then}
 use Rattle.model.specs.Delivering.{posting, client_moves}
 use Rattle.model.specs.Meddling.{sent_by}
 use Rattle.model.specs.Slips.{freed, holding_slip}
@@ -85,7 +86,7 @@ module _ {V : Type 0} (kind : Kind V) (sealed : List Text) (w : World) (holds : 
 
   -- every rule holds after a call that has sealed this text, or none
   abbrev KeptSo : Option Text → Hall → Type 0
-  KeptSo t h = GenuineThen t w genuine → Holds kind.number (sealed_with t sealed) (with_seals_of h)
+  KeptSo t h = genuine ≡ genuine_then t w → Holds kind.number (sealed_with t sealed) (with_seals_of h)
 
   -- nothing was sealed
   kept_plain : {t : Option Text} {h : Hall} → t ≡ None → Holds kind.number sealed (in_hall w h) → KeptSo t h
@@ -96,10 +97,10 @@ module _ {V : Type 0} (kind : Kind V) (sealed : List Text) (w : World) (holds : 
   plain other is none e done_so = kept_plain (ap (sealed_by kind w a h') is ∙ none) (subst (λ h. Holds kind.number sealed (in_hall w h)) e done_so)
 
   freeing : {c : ℕ} → Seated w c → Holds kind.number sealed (in_hall w (with_seat w.hall c (freed (seat_of w.hall c))))
-  freeing {c} s = one_seat_keeps kind.number sealed w c (freed (seat_of w.hall c)) w.next w.given holds s.low s.high (freed_rule (holds.seats c s.low s.high))
+  freeing {c} s = one_seat_keeps kind.number sealed w c (freed (seat_of w.hall c)) w.left_open holds s.low s.high (freed_rule (holds.seats c s.low s.high))
 
   lodging : {c : ℕ} (lodged : Option ℕ) → Seated w c → Holds kind.number sealed (in_hall w (with_seat w.hall c (holding_slip (seat_of w.hall c) lodged)))
-  lodging {c} lodged s = one_seat_keeps kind.number sealed w c (holding_slip (seat_of w.hall c) lodged) w.next w.given holds s.low s.high (lodged_rule lodged (holds.seats c s.low s.high))
+  lodging {c} lodged s = one_seat_keeps kind.number sealed w c (holding_slip (seat_of w.hall c) lodged) w.left_open holds s.low s.high (lodged_rule lodged (holds.seats c s.low s.high))
 
   -- no line changes where a replica made a step
   line_kept : (place : ℕ → Option Card) (saves : Option ℕ) (post : Option Entry) (party : ℕ) → text_if_stamped kind.number (seat_of w.hall party).line (seat_of (posting (with_store w.hall place saves) post) party).line ≡ None
@@ -118,15 +119,15 @@ module _ {V : Type 0} (kind : Kind V) (sealed : List Text) (w : World) (holds : 
       subst (λ c. KeptSo (sealed_by kind w a h' c) h') (sym is)
       (subst (λ b. KeptSo (text_if_done b (next_text w.hall.source set)) h') (sym (answer_is p))
       (λ grown. subst (λ h. Holds kind.number (next_text w.hall.source set ∷ sealed) (with_seals_of h)) (hall_is p)
-      (issue_keeps kind.number sealed w holds (record { newest = w.hall.source.newest + 1 }) (record { epoch = w.hall.source.newest + 1; set = set; seal = w.given (next_text w.hall.source set) })
-      (spent w.hall.seals 0) w.next genuine w.given refl refl allowed.right allowed.few allowed.roll_room allowed.post_room grown.1 others (next_text w.hall.source set) refl)))
+      (issue_keeps kind.number sealed w holds (record { newest = w.hall.source.newest + 1 }) (record { epoch = w.hall.source.newest + 1; set = set; seal = w.left_open.given (next_text w.hall.source set) })
+      (spent w.hall.seals 0) w.left_open genuine refl refl allowed.right allowed.few allowed.roll_room allowed.post_room (remains (desk_of w) (next_text w.hall.source set) genuine grown) others (next_text w.hall.source set) refl)))
     where
       others : (q : ℕ) → 1 ≤ q → spent w.hall.seals 0 q ≡ w.hall.seals q
       others q low = ap (λ b. cond b (w.hall.seals q - 1) (w.hall.seals q)) (ne_eqb q 0 (λ e. omega arith))
   keeps_by (starts client word is allowed p) =
       kept_plain (begin_seals_none kind w a h' is)
       (subst (λ h. Holds kind.number sealed (in_hall w h)) (hall_is p)
-      (begin_keeps kind.number sealed w holds client word w.next w.given allowed.seated.low allowed.seated.high allowed.log_room allowed.post_room allowed.seal_left))
+      (begin_keeps kind.number sealed w holds client word w.left_open allowed.seated.low allowed.seated.high allowed.log_room allowed.post_room allowed.seal_left))
   keeps_by (client_steps number client is seated room fits line post seals step answer e) =
       subst (λ c. KeptSo (sealed_by kind w a h' c) h') (sym is)
       (subst (λ h. KeptSo (text_if_stamped kind.number (seat_of w.hall client.number).line (seat_of h client.number).line) h) e
@@ -148,6 +149,6 @@ pub step_keeps : {V : Type 0} (kind : Kind V) (sealed : List Text) (w w' : World
     → (call : Call V) → Step kind w call a w' → Holds kind.number (sealed_with (sealed_in kind call w) sealed) w'
 step_keeps kind sealed w w' a small holds unforged call step =
     subst (λ t. Holds kind.number (sealed_with t sealed) w') (sym (sealed_so call step))
-    (open_keeps kind.number (sealed_with (sealed_by kind w a w'.hall call) sealed) (record w' { next = w.next; given = w.given }) w'.next w'.given
+    (open_keeps kind.number (sealed_with (sealed_by kind w a w'.hall call) sealed) (record w' { left_open = w.left_open }) w'.left_open
     (keeps_by kind sealed w holds small unforged call a w'.hall w'.genuine (effect_of kind w a w'.hall call (sym step.outcome))
-    (subst (λ t. GenuineThen t w w'.genuine) (sealed_so call step) step.genuine)))
+    (subst (λ t. w'.genuine ≡ genuine_then t w) (sealed_so call step) step.genuine)))

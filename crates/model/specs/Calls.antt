@@ -1,13 +1,14 @@
 -- The nine calls of a hall, what each of them answers and leaves, and which text it has sealed.
-use Rattle.std.specs.Prelude.{◌≡◌, ℕ, Bool, true, cond, Some, None, Option}
+use Rattle.std.specs.Prelude.{◌≡◌, ℕ, Bool, cond, Some, None, Option}
 use Rattle.wire.specs.declared.entry.Entry.{Entry}
 use Rattle.wire.specs.declared.pair.Seal.{Seal}
 use Rattle.wire.specs.declared.set.ReplicaSet.{ReplicaSet}
 use Rattle.wire.specs.declared.text.Text.{Text}
 use Rattle.wire.specs.Texts.{pair_text}
 use Rattle.clients.specs.declared.line.Line.{Line}
+use Rattle.sealers.specs.Sealing.{genuine_with}
 use Rattle.source.specs.Issued.{next_text}
-use Rattle.model.specs.Halls.{World, Kind, seat_of}
+use Rattle.model.specs.Halls.{World, Kind, seat_of, desk_of}
 use Rattle.model.specs.Answers.{Answer, done, slip, pair, refused, Outcome}
 use Rattle.model.specs.Issuing.{issue_called}
 use Rattle.model.specs.Beginning.{begin_called}
@@ -64,12 +65,12 @@ sealed_in kind (lodge c k) w = None
 sealed_in kind (redeem c) w = None
 sealed_in kind (meddle party e) w = None
 
--- a text that was sealed makes the seal that it got genuine, and genuine seals stay so; without one nothing changes
-abbrev pub GenuineThen : Option Text → World → (Text → Seal → Bool) → Type 0
-GenuineThen None w after = after ≡ w.genuine
-GenuineThen (Some t) w after = (after t (w.given t) ≡ true) × ((u : Text) (s : Seal) → w.genuine u s ≡ true → after u s ≡ true)
+-- which seals are genuine after a call that has sealed this text, or none: without one nothing changes
+abbrev pub genuine_then : Option Text → World → Text → Seal → Bool
+genuine_then None w = w.genuine
+genuine_then (Some t) w = genuine_with (desk_of w) t
 
 -- a call takes a world to another with this answer; what store and sealer leave open is open here too
 pub record Step {V : Type 0} (kind : Kind V) (before : World) (call : Call V) (answer : Answer V) (after : World) : Type 0 where
   pub outcome : record { answer = answer; hall = after.hall } ≡ called kind call before
-  pub genuine : GenuineThen (sealed_in kind call before) before after.genuine
+  pub genuine : after.genuine ≡ genuine_then (sealed_in kind call before) before

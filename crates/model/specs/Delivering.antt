@@ -125,7 +125,7 @@ replica_done s number h = by_replica s.answer s.place s.saves number h
 
 -- the meaning of the store, as the step of a replica takes it
 abbrev pub shelf_of : World → Shelf
-shelf_of w = record { place = w.hall.place; saves = w.hall.saves; next = w.next }
+shelf_of w = record { place = w.hall.place; saves = w.hall.saves; next = w.left_open.next }
 
 -- the client's step on an entry
 abbrev pub client_step_of : World → ℕ → Client → Entry → ClientStepped

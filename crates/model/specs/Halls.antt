@@ -41,17 +41,22 @@ pub record Hall : Type 0 where
   pub saves : Option ℕ
   pub seals : ℕ → ℕ
 
--- the hall, and what its store and its sealer leave open: the place that a refused save names,
--- which seals are genuine, and which seal a text would get
+-- what a store and a sealer leave open: the place that a refused save names, the seal that a text would get,
+-- and which others would become genuine beside it
+pub record LeftOpen : Type 0 where
+  pub next : ℕ
+  pub given : Text → Seal
+  pub beside : Text → Text → Seal → Bool
+
+-- the hall, which seals are genuine, and what its store and its sealer leave open
 pub record World : Type 0 where
   pub hall : Hall
-  pub next : ℕ
   pub genuine : Text → Seal → Bool
-  pub given : Text → Seal
+  pub left_open : LeftOpen
 
 -- the meaning of the sealer, as the steps of the source and of clients take it
 abbrev pub desk_of : World → Desk
-desk_of w = record { genuine = w.genuine; seals = w.hall.seals; given = w.given }
+desk_of w = record { genuine = w.genuine; seals = w.hall.seals; given = w.left_open.given; beside = w.left_open.beside }
 
 -- a record kind: its number, the word of a value, the value of a word
 pub record Kind (V : Type 0) : Type 0 where

@@ -4,6 +4,7 @@ use Rattle.kinds.specs.declared.word.Word.{Word}
 use Rattle.wire.specs.declared.entry.Entry.{Entry}
 use Rattle.wire.specs.declared.entry.EntryKind.{EntryKind}
 use Rattle.wire.specs.declared.entry.EntryKind.TheVariants.{Read, Write, Transfer, Pair as APair, Ack, Stock, Config, Behind}
+use Rattle.wire.specs.declared.pair.Seal.{Seal}
 use Rattle.wire.specs.declared.text.Text.{Text}
 use Rattle.wire.specs.Entries.{kind_of, pair_of, configuration_of}
 use Rattle.wire.specs.Sets.{member}
@@ -100,3 +101,8 @@ Unforged {V = V} {kind = kind} run =
     → text_of kind.number (entry_of (run.world i).hall n) ≡ Some t
     → (run.world i).genuine t (entry_of (run.world i).hall n).seal ≡ true
     → SealedBefore run i t
+
+-- nothing is genuine at the start, and no seal becomes so beside one that is given
+pub record OnlyGiven {V : Type 0} {kind : Kind V} {start : World} (run : Run kind start) : Type 0 where
+  pub none : (t : Text) (s : Seal) → start.genuine t s ≡ false
+  pub beside : (i : ℕ) → i < run.calls → (text t : Text) (s : Seal) → (run.world i).left_open.beside text t s ≡ false

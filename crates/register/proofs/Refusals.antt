@@ -58,7 +58,7 @@ module _ {V : Type 0} (w : World) (kind : ℕ) (replica : Replica) (e : Entry) (
   replica_refused fault is =
       let stays : (place ≡ w.hall.place) × (saves ≡ w.hall.saves) =
       subst (λ (s : ReplicaStepped). (s.place ≡ w.hall.place) × (s.saves ≡ w.hall.saves)) (sym is)
-      (card_stays (w.hall.place replica.number) w.hall.rules kind w.genuine (record { place = w.hall.place; saves = w.hall.saves; next = w.next }) replica e fault (ap (λ (s : ReplicaStepped). s.answer) (sym is)))
+      (card_stays (w.hall.place replica.number) w.hall.rules kind w.genuine (record { place = w.hall.place; saves = w.hall.saves; next = w.left_open.next }) replica e fault (ap (λ (s : ReplicaStepped). s.answer) (sym is)))
       in
       subst (λ (s : ReplicaStepped). ◌≡◌ {A = Outcome V} (record { answer = refused (Step number (ByReplica fault)); hall = with_store w.hall place saves }) (replica_done s number w.hall)) is
       (ap₂ (λ p n. record { answer = refused (Step number (ByReplica fault)); hall = with_store w.hall p n }) stays.0 stays.1)

@@ -7,7 +7,7 @@ use Rattle.wire.specs.declared.text.Text.{Text}
 use Rattle.wire.specs.Texts.{pair_text}
 use Rattle.wire.specs.Parties.{Client}
 use Rattle.sealers.specs.declared.fault.SealerFault.TheVariants.{NoSeal}
-use Rattle.sealers.specs.Sealing.{Desk, Sealed, spent, GenuineAfter}
+use Rattle.sealers.specs.Sealing.{Desk, Sealed, spent, genuine_after}
 use Rattle.rules.specs.declared.rules.Rules.{Rules}
 use Rattle.rules.specs.Genuine.{genuine_entry}
 use Rattle.clients.specs.declared.fault.ClientFault.{ClientFault}
@@ -18,11 +18,11 @@ use Rattle.clients.specs.declared.turn.Turn.{Turn}
 use Rattle.clients.specs.declared.turn.Turn.TheVariants.{Moves, Stamps}
 use Rattle.clients.specs.Lines.{sealed_with}
 use Rattle.clients.specs.Turns.{Verdict, decided}
-use Rattle.clients.specs.Steps.{Stepped, signing, acted, client_stepped, GenuineActed, GenuineStepped}
+use Rattle.clients.specs.Steps.{Stepped, signing, acted, client_stepped, genuine_acted, genuine_stepped}
 use Rattle.halls.specs.declared.seat.Seat.{Seat}
 use Rattle.model.specs.Halls.{Hall, World, desk_of, no_seat, seat_of}
 use Rattle.model.specs.Delivering.{client_moves, is_stamping}
-use Rattle.model.specs.Calls.{GenuineThen, text_if_stamped}
+use Rattle.model.specs.Calls.{text_if_stamped, genuine_then}
 use Rattle.model.proofs.ClientMoves.{ClientMove, counts_pair, ends_read, writes_back, takes_stamp, counts_ack, ends_write, goes_on, reads_again, writes_again, replies, client_view}
 
 same : (s : Stage) → is_stamping s s ≡ false
@@ -97,38 +97,38 @@ module _ (rules : Rules) (client : Client) (line : Line) (e : Entry) (genuine : 
   stamps_loud next (replies k t) = other_turn (sym t)
 
 -- where no stamp is taken, nothing is sealed
-quiet_seals : (kind : ℕ) (w : World) (before after : Line) (genuine : Text → Seal → Bool) → is_stamping before.stage after.stage ≡ false → genuine ≡ w.genuine → GenuineThen (text_if_stamped kind before after) w genuine
-quiet_seals kind w before after genuine quiet is = subst (λ b. GenuineThen (cond b (Some (pair_text kind after.highest)) None) w genuine) (sym quiet) is
+quiet_seals : (kind : ℕ) (w : World) (before after : Line) (genuine : Text → Seal → Bool) → is_stamping before.stage after.stage ≡ false → genuine ≡ w.genuine → genuine ≡ genuine_then (text_if_stamped kind before after) w
+quiet_seals kind w before after genuine quiet is = subst (λ b. genuine ≡ genuine_then (cond b (Some (pair_text kind after.highest)) None) w) (sym quiet) is
 
-loud_seals : (kind : ℕ) (w : World) (before after : Line) (genuine : Text → Seal → Bool) → is_stamping before.stage after.stage ≡ true → GenuineThen (Some (pair_text kind after.highest)) w genuine → GenuineThen (text_if_stamped kind before after) w genuine
-loud_seals kind w before after genuine loud is = subst (λ b. GenuineThen (cond b (Some (pair_text kind after.highest)) None) w genuine) (sym loud) is
+loud_seals : (kind : ℕ) (w : World) (before after : Line) (genuine : Text → Seal → Bool) → is_stamping before.stage after.stage ≡ true → genuine ≡ genuine_then (Some (pair_text kind after.highest)) w → genuine ≡ genuine_then (text_if_stamped kind before after) w
+loud_seals kind w before after genuine loud is = subst (λ b. genuine ≡ genuine_then (cond b (Some (pair_text kind after.highest)) None) w) (sym loud) is
 
 -- a line that stays as it is has sealed nothing
-pub stays_unsealed : (kind : ℕ) (line : Line) (w : World) → GenuineThen (text_if_stamped kind line line) w w.genuine
+pub stays_unsealed : (kind : ℕ) (line : Line) (w : World) → w.genuine ≡ genuine_then (text_if_stamped kind line line) w
 stays_unsealed kind line w = quiet_seals kind w line line w.genuine (same line.stage) refl
 
 module _ (rules : Rules) (kind : ℕ) (w : World) (client : Client) (before after : Line) (e : Entry) (answer : Result (Option Entry) ClientFault) (seals : ℕ → ℕ) (genuine : Text → Seal → Bool) where
   told_by_seal : (next : Line) (b : Bool) → is_stamping before.stage next.stage ≡ true
       → ◌≡◌ {A = Stepped} (record { answer = answer; line = after; seals = seals }) (signing (seal_if b (desk_of w) (pair_text kind next.highest)) client before next)
-      → GenuineAfter w.genuine (pair_text kind next.highest) (seal_if b (desk_of w) (pair_text kind next.highest)).answer genuine
-      → GenuineThen (text_if_stamped kind before after) w genuine
+      → genuine ≡ genuine_after (desk_of w) (pair_text kind next.highest) (seal_if b (desk_of w) (pair_text kind next.highest)).answer
+      → genuine ≡ genuine_then (text_if_stamped kind before after) w
   told_by_seal next true loud is grown =
-      subst (λ (l : Line). GenuineThen (text_if_stamped kind before l) w genuine) (sym (ap (λ (s : Stepped). s.line) is))
+      subst (λ (l : Line). genuine ≡ genuine_then (text_if_stamped kind before l) w) (sym (ap (λ (s : Stepped). s.line) is))
       (quiet_seals kind w before before genuine (same before.stage) grown)
   told_by_seal next false loud is grown =
-      let s = w.given (pair_text kind next.highest) in
-      subst (λ (l : Line). GenuineThen (text_if_stamped kind before l) w genuine) (sym (ap (λ (s : Stepped). s.line) is))
+      let s = w.left_open.given (pair_text kind next.highest) in
+      subst (λ (l : Line). genuine ≡ genuine_then (text_if_stamped kind before l) w) (sym (ap (λ (s : Stepped). s.line) is))
       (loud_seals kind w before (sealed_with next s) genuine loud grown)
 
   told_by_verdict : (v : Verdict) → decided rules client before e (genuine_entry rules kind w.genuine e) ≡ v
       → ◌≡◌ {A = Stepped} (record { answer = answer; line = after; seals = seals }) (acted v kind (desk_of w) client before)
-      → GenuineActed v kind (desk_of w) genuine
-      → GenuineThen (text_if_stamped kind before after) w genuine
+      → genuine ≡ genuine_acted v kind (desk_of w)
+      → genuine ≡ genuine_then (text_if_stamped kind before after) w
   told_by_verdict (Err why) v is same_seals =
-      subst (λ (l : Line). GenuineThen (text_if_stamped kind before l) w genuine) (sym (ap (λ (s : Stepped). s.line) is))
+      subst (λ (l : Line). genuine ≡ genuine_then (text_if_stamped kind before l) w) (sym (ap (λ (s : Stepped). s.line) is))
       (quiet_seals kind w before before genuine (same before.stage) same_seals)
   told_by_verdict (Ok (Moves next post)) v is same_seals =
-      subst (λ (l : Line). GenuineThen (text_if_stamped kind before l) w genuine) (sym (ap (λ (s : Stepped). s.line) is))
+      subst (λ (l : Line). genuine ≡ genuine_then (text_if_stamped kind before l) w) (sym (ap (λ (s : Stepped). s.line) is))
       (quiet_seals kind w before next genuine
       (moves_quiet rules client before e (genuine_entry rules kind w.genuine e) next post (client_view rules client before e (genuine_entry rules kind w.genuine e) (Moves next post) v))
       same_seals)
@@ -139,8 +139,8 @@ module _ (rules : Rules) (kind : ℕ) (w : World) (client : Client) (before afte
 
   -- the seals that are genuine after a step, told by the line before and after it
   pub step_seals : ◌≡◌ {A = Stepped} (record { answer = answer; line = after; seals = seals }) (client_stepped rules kind (desk_of w) client before e)
-      → GenuineStepped rules kind (desk_of w) client before e genuine
-      → GenuineThen (text_if_stamped kind before after) w genuine
+      → genuine ≡ genuine_stepped rules kind (desk_of w) client before e
+      → genuine ≡ genuine_then (text_if_stamped kind before after) w
   step_seals is grown = told_by_verdict (decided rules client before e (genuine_entry rules kind w.genuine e)) refl is grown
 
 -- the line of a client after its step

@@ -4,7 +4,7 @@ use Rattle.wire.specs.declared.pair.Pair.{Pair}
 use Rattle.lists.specs.declared.List.{List as Lent}
 use Rattle.lists.specs.Held.{held, behind}
 use Rattle.stores.specs.Saved.{Shelf}
-use Rattle.sealers.specs.Sealing.{Desk}
+use Rattle.sealers.specs.Sealing.{Desk, none_beside}
 use Rattle.halls.specs.declared.fault.HallFault.{HallFault}
 use Rattle.halls.specs.declared.fault.HallFault.TheVariants.{Step}
 use Rattle.halls.specs.declared.fault.StepFault.{StepFault}
@@ -40,16 +40,15 @@ hall_of h t shelf desk = record {
 abbrev pub world_of : {K : Type 0} → TheHall K → Tables → Shelf → Desk → World
 world_of h t shelf desk = record {
   hall = hall_of h t shelf desk;
-  next = shelf.next;
   genuine = desk.genuine;
-  given = desk.given;
+  left_open = record { next = shelf.next; given = desk.given; beside = desk.beside };
 }
 
 -- store and sealer of a hall where they do not matter: nothing is kept, and nothing sealed
 abbrev pub bare : {K : Type 0} → TheHall K → Tables → Hall
 bare h t = hall_of h t
     (record { place = λ n. None; saves = None; next = 0 })
-    (record { genuine = λ t s. false; seals = λ p. 0; given = λ t. record { 0 = 0 } })
+    (record { genuine = λ t s. false; seals = λ p. 0; given = λ t. record { 0 = 0 }; beside = none_beside })
 
 -- what a call answers that has nothing to tell
 abbrev pub done_or : {V : Type 0} → Result (Unit {0}) HallFault → Answer V

@@ -5,7 +5,7 @@ ghost use Rattle.sealers.specs.Sealing.{Desk};
 ghost use Rattle.model.specs.Tables.{is_full};
 ghost use Rattle.model.specs.Halls.{no_seat, seat_of};
 ghost use Rattle.model.specs.Delivering.{client_moves, client_done, client_step_of, replica_done, replica_step_of, deliver_called};
-ghost use Rattle.model.specs.Calls.{GenuineThen, text_if_stamped};
+ghost use Rattle.model.specs.Calls.{genuine_then, text_if_stamped};
 ghost use Rattle.register.specs.Worlds.{table, bare, hall_of, world_of, outcome, done_or, stepped_or};
 
 use crate::fitting::{fits_client, fits_replica};
@@ -60,7 +60,7 @@ impl<K: Kind> Hall<K> {
         requires within { client.number - 1 < length tables.old.seats.now }
         requires seated { seat ≡ slice_index_or tables.old.seats.now (client.number - 1) no_seat }
         ensures change { (shelf : Shelf) (number : ℕ) → outcome {V = K} (stepped_or number result) self.new tables.new shelf (L.Sealer.desk sealer.new) ≡ client_done (client_step_of (world_of self.old tables.old shelf (L.Sealer.desk sealer.old)) K.Kind.NUMBER client entry.now) number (hall_of self.old tables.old shelf (L.Sealer.desk sealer.old)) client }
-        ensures grows { (shelf : Shelf) → GenuineThen (text_if_stamped K.Kind.NUMBER (seat_of (bare self.old tables.old) client.number).line (seat_of (bare self.new tables.new) client.number).line) (world_of self.old tables.old shelf (L.Sealer.desk sealer.old)) (L.Sealer.desk sealer.new).genuine }
+        ensures grows { (shelf : Shelf) → (L.Sealer.desk sealer.new).genuine ≡ genuine_then (text_if_stamped K.Kind.NUMBER (seat_of (bare self.old tables.old) client.number).line (seat_of (bare self.new tables.new) client.number).line) (world_of self.old tables.old shelf (L.Sealer.desk sealer.old)) }
     {
         let mut line = seat.line;
         let post = client_step::<K, L>(&self.rules, client, &mut line, entry, sealer)?;
@@ -100,7 +100,7 @@ impl<K: Kind> Hall<K> {
         sealer: &mut L,
     ) -> Result<(), HallFault>
         ensures change { outcome {V = K} (done_or result) self.new tables.new (S.Store.shelf store.new) (L.Sealer.desk sealer.new) ≡ deliver_called (world_of self.old tables.old (S.Store.shelf store.old) (L.Sealer.desk sealer.old)) K.Kind.NUMBER number party }
-        ensures grows { GenuineThen (text_if_stamped K.Kind.NUMBER (seat_of (bare self.old tables.old) party).line (seat_of (bare self.new tables.new) party).line) (world_of self.old tables.old (S.Store.shelf store.old) (L.Sealer.desk sealer.old)) (L.Sealer.desk sealer.new).genuine }
+        ensures grows { (L.Sealer.desk sealer.new).genuine ≡ genuine_then (text_if_stamped K.Kind.NUMBER (seat_of (bare self.old tables.old) party).line (seat_of (bare self.new tables.new) party).line) (world_of self.old tables.old (S.Store.shelf store.old) (L.Sealer.desk sealer.old)) }
     {
         if !self.has_its_tables(tables) {
             return Err(HallFault::WrongTables);

@@ -3,7 +3,7 @@ ghost use Rattle.std.specs.Prelude.{◌≡◌};
 ghost use Rattle.stores.specs.Saved.{Shelf};
 ghost use Rattle.source.specs.Issued.{next_text};
 ghost use Rattle.model.specs.Issuing.{issue_called};
-ghost use Rattle.model.specs.Calls.{GenuineThen, text_if_done};
+ghost use Rattle.model.specs.Calls.{genuine_then, text_if_done};
 ghost use Rattle.register.specs.Worlds.{world_of, outcome, done_or};
 
 use crate::hall::Hall;
@@ -24,7 +24,7 @@ impl<K: Kind> Hall<K> {
         sealer: &mut L,
     ) -> Result<(), HallFault>
         ensures change { (shelf : Shelf) → outcome {V = K} (done_or result) self.new tables.new shelf (L.Sealer.desk sealer.new) ≡ issue_called (world_of self.old tables.old shelf (L.Sealer.desk sealer.old)) set }
-        ensures grows { (shelf : Shelf) → let before = world_of self.old tables.old shelf (L.Sealer.desk sealer.old) in GenuineThen (text_if_done {V = K} (issue_called before set).answer (next_text self.old.source set)) before (L.Sealer.desk sealer.new).genuine }
+        ensures grows { (shelf : Shelf) → let before = world_of self.old tables.old shelf (L.Sealer.desk sealer.old) in (L.Sealer.desk sealer.new).genuine ≡ genuine_then (text_if_done {V = K} (issue_called before set).answer (next_text self.old.source set)) before }
     {
         if !self.has_its_tables(tables) {
             return Err(HallFault::WrongTables);

@@ -1,20 +1,22 @@
 -- The calls of a script's lines, each of them a step, make up a run. Assumes nothing.
-use Rattle.std.proofs.Common.{◌≡◌, ℕ, zero, suc, ◌+◌, ◌<◌, List, [], ◌∷◌, ◌++◌, length, slice_index_or, Option, refl, sym, ap, ◌∙◌, subst, arith}
+use Rattle.std.proofs.Common.{◌≡◌, ℕ, zero, suc, ◌+◌, ◌<◌, false, List, [], ◌∷◌, ◌++◌, length, slice_index_or, Option, refl, sym, ap, ◌∙◌, subst, arith}
 use Rattle.kinds.specs.declared.bin_weight.BinWeight.{BinWeight}
 use Rattle.refusals.specs.declared.Refusal.{Refusal}
+use Rattle.wire.specs.declared.pair.Seal.{Seal}
+use Rattle.wire.specs.declared.text.Text.{Text}
 use Rattle.model.specs.Halls.{World}
 use Rattle.model.specs.Answers.{Answer, done}
 use Rattle.model.specs.Calls.{Call, redeem, Step}
 use Rattle.runner.specs.declared.fault.ScriptFault.{ScriptFault}
 use Rattle.model.specs.Kinds.{bin_weights}
 use Rattle.runner.specs.Asks.{Asks}
-use Rattle.runner.specs.Plays.{Does, stops, goes_on, Plays, ended, line, calls_in, calls_of}
+use Rattle.runner.specs.Plays.{BookStep, Does, stops, goes_on, Plays, ended, line, calls_in, calls_of}
 use Rattle.runner.specs.Outputs.{RunOf}
 
 -- steps from one world to another
 data Chain (last : World) : World → Type 0 where
   none : Chain last last
-  more : {w next : World} {call : Call BinWeight} {answer : Answer BinWeight} → Step bin_weights w call answer next → Chain last next → Chain last w
+  more : {w next : World} {call : Call BinWeight} {answer : Answer BinWeight} → BookStep w call answer next → Chain last next → Chain last w
 
 abbrev of_asks : {last before after : World} {asked : Asks} {fault : Option ScriptFault} → Does before asked fault after → Chain last after → Chain last before
 of_asks stops rest = rest
@@ -51,9 +53,9 @@ at_end : {last w : World} (chain : Chain last w) → world_at chain (many chain)
 at_end none = refl
 at_end (more step rest) = at_end rest
 
-step_at : {last w : World} (chain : Chain last w) (i : ℕ) → i < many chain → Step bin_weights (world_at chain i) (call_at chain i) (answer_at chain i) (world_at chain (suc i))
+step_at : {last w : World} (chain : Chain last w) (i : ℕ) → i < many chain → BookStep (world_at chain i) (call_at chain i) (answer_at chain i) (world_at chain (suc i))
 step_at none i lt = absurd (omega arith)
-step_at (more {w = w} {call = call} {answer = answer} step rest) zero lt = subst (λ x. Step bin_weights w call answer x) (sym (first rest)) step
+step_at (more {w = w} {call = call} {answer = answer} step rest) zero lt = subst (λ x. BookStep w call answer x) (sym (first rest)) step
 step_at (more step rest) (suc i) lt = step_at rest i (omega arith)
 
 abbrev calls : {last w : World} → Chain last w → List (Call BinWeight)
@@ -79,8 +81,8 @@ unfolding calls_of
 all_calls ended = refl
 all_calls (line does plays) = asked_calls does (of_lines plays) ∙ ap (λ cs. calls_in does ++ cs) (all_calls plays)
 
-run_of : {start last : World} (chain : Chain last start) → RunOf start last (calls chain)
-run_of chain = record {
+run_of : {start last : World} → ((t : Text) (s : Seal) → start.genuine t s ≡ false) → (chain : Chain last start) → RunOf start last (calls chain)
+run_of none_yet chain = record {
   run = record {
     calls = many chain;
     world = world_at chain;
@@ -88,12 +90,14 @@ run_of chain = record {
     answer = answer_at chain;
     opens = first chain;
     steps = λ i lt. let next : suc i ≡ i + 1 = omega arith in
-        subst (λ m. Step bin_weights (world_at chain i) (call_at chain i) (answer_at chain i) (world_at chain m)) next (step_at chain i lt);
+        subst (λ m. Step bin_weights (world_at chain i) (call_at chain i) (answer_at chain i) (world_at chain m)) next (step_at chain i lt).step;
   };
   many = as_many chain;
   each = same_call chain;
   ends = at_end chain;
+  only = record { none = none_yet; beside = λ i lt text t s. ap (λ f. f text t s) (step_at chain i lt).only };
 }
 
-pub run_to : {number : ℕ} {start last : World} {lines : List (List ℕ)} {refusals : List Refusal} (plays : Plays number start lines refusals last) → RunOf start last (calls_of plays)
-run_to {start = start} {last = last} plays = subst (λ cs. RunOf start last cs) (all_calls plays) (run_of (of_lines plays))
+pub run_to : {number : ℕ} {start last : World} {lines : List (List ℕ)} {refusals : List Refusal} → ((t : Text) (s : Seal) → start.genuine t s ≡ false)
+    → (plays : Plays number start lines refusals last) → RunOf start last (calls_of plays)
+run_to {start = start} {last = last} none_yet plays = subst (λ cs. RunOf start last cs) (all_calls plays) (run_of none_yet (of_lines plays))

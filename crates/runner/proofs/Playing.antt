@@ -1,5 +1,6 @@
 -- The memory of a script's hall, and its store and book at the opening. Assumes nothing.
-use Rattle.std.proofs.Common.{◌≡◌, ℕ, ◌+◌, ◌-◌, ◌*◌, min, Bool, true, false, cond, List, [], ◌∷◌, length, replicate, take, length-append, get_or, is_some, None, Ok, Err, Result, IfOk, refl, sym, ap, ◌∙◌, subst, arith}
+use Rattle.std.proofs.Common.{◌≡◌, ℕ, ◌+◌, ◌-◌, ◌*◌, min, Bool, true, false, cond, List, [], ◌∷◌, length, replicate, take, length-append, get_or, is_some, None, Err, Result, IfOk, refl, ap, ◌∙◌, subst, arith}
+use Rattle.std.specs.Vec.{vec_items, vec_len}
 use Rattle.std.proofs.lemmas.List.{get_or-replicate, take-replicate}
 use Rattle.std.proofs.lemmas.Result.{IfOk-weaker}
 use Rattle.refusals.specs.declared.Refusal.{Refusal}
@@ -9,7 +10,7 @@ use Rattle.stores.specs.declared.cabinet.Cabinet.{Cabinet}
 use Rattle.stores.specs.Cabinets.{kept, cabinet_shelf}
 use Rattle.sealers.specs.Sealing.{Desk}
 use Rattle.sealers.specs.declared.book.Book.{Book}
-use Rattle.sealers.specs.Books.{book_seals, end_row, next_row}
+use Rattle.sealers.specs.Books.{book_seals, book_desk, end_row, next_row}
 use Rattle.sealers.proofs.Rows.{party_below}
 use Rattle.halls.specs.declared.seat.Seat.{Seat}
 use Rattle.script.specs.declared.command.SetUp.{SetUp}
@@ -17,14 +18,16 @@ use Rattle.script.specs.Reports.{printed}
 use Rattle.model.specs.Halls.{World, no_entry, no_operation, no_configuration}
 use Rattle.register.specs.Openings.{Lent}
 use Rattle.runner.specs.declared.fault.ScriptFault.{ScriptFault}
+use Rattle.runner.specs.declared.memory.Memory.{Memory}
+use Rattle.runner.specs.Opened.{Fresh}
 use Rattle.runner.specs.Openings.{empty_seat, tables_for, empty_cabinet, fresh_book, opening_over, opening}
 use Rattle.runner.specs.Texts.{Numbered, Countable}
-use Rattle.runner.specs.Outputs.{PromisedFor, FirstSetUp, Goes, unopened, played, Shows, without_set_up, with_set_up, refused_text, unread}
+use Rattle.runner.specs.Outputs.{Begun, Ran, FirstSetUp, Goes, unopened, played, Shows, without_set_up, with_set_up, NoSetUp, all_refused, unread, number_of, behind_of}
 use Rattle.runner.specs.Turns.{Found, Searched, Played}
 use Rattle.runner.proofs.Chains.{run_to}
 
 -- empty tables over fresh places
-pub lent_as : (t : Lent) (clients : ℕ) → t.post.list ≡ [] → t.post.rest ≡ replicate 512 no_entry → t.log.list ≡ [] → t.log.rest ≡ replicate 64 no_operation
+lent_as : (t : Lent) (clients : ℕ) → t.post.list ≡ [] → t.post.rest ≡ replicate 512 no_entry → t.log.list ≡ [] → t.log.rest ≡ replicate 64 no_operation
     → t.roll.list ≡ [] → t.roll.rest ≡ replicate 16 no_configuration → t.seats ≡ replicate (min 32 clients) empty_seat → t ≡ tables_for clients
 lent_as t clients post post_rest log log_rest roll roll_rest seats i = record {
   post = record { list = post i; rest = post_rest i };
@@ -33,22 +36,22 @@ lent_as t clients post post_rest log log_rest roll roll_rest seats i = record {
   seats = seats i;
 }
 
-pub seats_as : (n len clients : ℕ) (xs : List Seat) → n ≡ min len clients → len ≡ 32 → xs ≡ replicate 32 empty_seat → take n xs ≡ replicate (min 32 clients) empty_seat
+seats_as : (n len clients : ℕ) (xs : List Seat) → n ≡ min len clients → len ≡ 32 → xs ≡ replicate 32 empty_seat → take n xs ≡ replicate (min 32 clients) empty_seat
 seats_as n len clients xs e many is =
     let few : n ≡ min 32 clients = e ∙ ap (λ m. min m clients) many in
     ap (λ m. take m xs) few ∙ ap (take (min 32 clients)) is ∙ take-replicate (min 32 clients) 32 empty_seat (omega arith)
 
-pub cabinet_as : (c : Cabinet) → ((n : ℕ) → kept c n ≡ None) → cabinet_shelf c ≡ empty_cabinet
+cabinet_as : (c : Cabinet) → ((n : ℕ) → kept c n ≡ None) → cabinet_shelf c ≡ empty_cabinet
 cabinet_as c none i = record { place = λ n. none n i; saves = None; next = 0 }
 
 -- of a sealer only how many seals are left is looked at
-pub opening_as : (t : Lent) (shelf : Shelf) (desk : Desk) (asked : SetUp) → t ≡ tables_for asked.clients → shelf ≡ empty_cabinet → desk.seals ≡ fresh_book.seals
+opening_as : (t : Lent) (shelf : Shelf) (desk : Desk) (asked : SetUp) → t ≡ tables_for asked.clients → shelf ≡ empty_cabinet → desk.seals ≡ fresh_book.seals
     → opening_over t shelf desk asked ≡ opening asked
 opening_as t shelf desk asked tables store seals i =
-    opening_over (tables i) (store i) (record { genuine = fresh_book.genuine; seals = seals i; given = fresh_book.given }) asked
+    opening_over (tables i) (store i) (record { genuine = fresh_book.genuine; seals = seals i; given = fresh_book.given; beside = fresh_book.beside }) asked
 
 -- each party has 64 seals left in a book that has just been opened
-pub seals_fresh : (b : Book) → b.share ≡ 64 → b.used ≡ replicate 164 0 → length b.rows.now ≡ 164 * 64 → book_seals b ≡ fresh_book.seals
+seals_fresh : (b : Book) → b.share ≡ 64 → b.used ≡ replicate 164 0 → length b.rows.now ≡ 164 * 64 → book_seals b ≡ fresh_book.seals
 seals_fresh b share used rows i p = by_party (is_some (party_of p)) refl i
   where
     by_party : (known : Bool) → is_some (party_of p) ≡ known → cond known (end_row b p - next_row b p) 0 ≡ cond known 64 0
@@ -58,42 +61,67 @@ seals_fresh b share used rows i p = by_party (is_some (party_of p)) refl i
         let none : get_or b.used p 0 ≡ 0 = ap (λ us. get_or us p 0) used ∙ get_or-replicate {A = ℕ} 164 p 0 0 low in
         rw (share, none, rows) (omega (arith, low))
 
--- what comes of a set-up that is refused
-pub goes_not : {S E : Type 0} (bytes : S → List ℕ) (r : Result S E) (asked : SetUp) (number : ℕ) (l : Numbered) (before : List Refusal) (fault : ScriptFault) → Err fault ≡ opening asked
-    → IfOk r (λ s. bytes s ≡ refused_text number l before fault) → IfOk r (λ s. Goes asked number l before (bytes s))
-goes_not bytes r asked number l before fault is = IfOk-weaker r _ _ (λ s shown. unopened fault (sym is) shown)
+-- over fresh memory, with an empty cabinet and a book that has just been opened, the opening is the one that is asked for
+pub as_asked : (t : Lent) (c : Cabinet) (b : Book) (asked : SetUp) {m : Memory} → Fresh m
+    → t.post.list ≡ [] → t.post.rest ≡ vec_items m.post → t.log.list ≡ [] → t.log.rest ≡ vec_items m.log → t.roll.list ≡ [] → t.roll.rest ≡ vec_items m.roll
+    → (n len : ℕ) → n ≡ min len asked.clients → len ≡ vec_len m.seats → t.seats ≡ take n (vec_items m.seats)
+    → ((k : ℕ) → kept c k ≡ None) → b.share ≡ 64 → b.used ≡ replicate 164 0 → b.rows.now ≡ vec_items m.rows
+    → opening_over t (cabinet_shelf c) (book_desk b) asked ≡ opening asked
+as_asked t c b asked fresh post post_rest log log_rest roll roll_rest n len few many seats none share used rows =
+    opening_as t (cabinet_shelf c) (book_desk b) asked
+    (lent_as t asked.clients post (post_rest ∙ fresh.post) log (log_rest ∙ fresh.log) roll (roll_rest ∙ fresh.roll) (seats ∙ seats_as n len asked.clients _ few (many ∙ fresh.many) fresh.seats))
+    (cabinet_as c none) (seals_fresh b share used (ap length rows ∙ fresh.rows))
 
--- and of one that is not
+-- what comes of a set-up that is refused
+pub goes_not : {S E : Type 0} (bytes : S → List ℕ) (r : Result S E) (asked : SetUp) (number : ℕ) (l : Numbered) (before : List Refusal) (fault : ScriptFault) → opening asked ≡ Err fault
+    → IfOk r (λ s. bytes s ≡ printed [] [] (all_refused number l before fault)) → IfOk r (λ s. Goes asked number l before (bytes s))
+goes_not bytes r asked number l before fault is = IfOk-weaker r _ _ (λ s shown. unopened fault is shown)
+
+-- lines that are played in a hall that has just been opened are a run, which keeps the promise
+abbrev pub ran : {asked : SetUp} {l : Numbered} {start last : World} {old new : List Refusal} → Begun asked start → Played l start old last new → Ran asked l
+ran {start = start} {last = last} begun p =
+    let run = run_to begun.none p.plays in
+    record {
+      start = start;
+      begun = begun;
+      last = last;
+      refusals = p.refusals;
+      plays = p.plays;
+      run = run;
+      kept = begun.promised.promised.keeps run.run (begun.promised.promised.unforged run.run run.only);
+    }
+
+-- what comes of a set-up that is not refused
 pub goes : {S E : Type 0} (bytes : S → List ℕ) (r : Result S E) (asked : SetUp) (number : ℕ) (l : Numbered) (before : List Refusal) (start last : World) (all : List Refusal)
-    → Ok start.hall ≡ opening asked → PromisedFor asked start → Played l start before last all
+    → Begun asked start → Played l start before last all
     → IfOk r (λ s. bytes s ≡ printed last.hall.roll.list last.hall.log.list all) → IfOk r (λ s. Goes asked number l before (bytes s))
-goes bytes r asked number l before start last all is promised p = IfOk-weaker r _ _ (λ s shown. played (record {
-  start = start;
-  opens = sym is;
-  promised = promised;
-  last = last;
-  refusals = p.refusals;
-  plays = p.plays;
-  run = run_to p.plays;
-  shown = shown ∙ ap (printed last.hall.roll.list last.hall.log.list) p.refused;
-}))
+goes bytes r asked number l before start last all begun p =
+    IfOk-weaker r _ _ (λ s shown. played (ran begun p) (shown ∙ ap (printed last.hall.roll.list last.hall.log.list) p.refused))
 
 -- nothing but the lines of the script behind the first set-up, or no set-up
 module _ (lines : List (List ℕ)) (l : Numbered) (is : l ≡ record { number = 1; lines = lines }) where
-  pub shows : (number : ℕ) (asked : SetUp) (next : Numbered) (new : List Refusal) (text : List ℕ) → Found l [] number asked next new → Goes asked number next new text → Shows lines text
-  shows number asked next new text found does = with_set_up first (subst (λ n. Goes asked n (record { number = n + 1; lines = next.lines }) (unread 1 f.before) text) f.place
-      (subst (λ rs. Goes asked number (record { number = number + 1; lines = next.lines }) rs text) f.refused
-      (subst (λ m. Goes asked number (record { number = m; lines = next.lines }) new text) f.follows does)))
-    where
-      f : Found (record { number = 1; lines = lines }) [] number asked next new
-      f = subst (λ x. Found x [] number asked next new) is found
+  module _ (number : ℕ) (asked : SetUp) (next : Numbered) (new : List Refusal) (found : Found l [] number asked next new) where
+    pub f : Found (record { number = 1; lines = lines }) [] number asked next new
+    f = subst (λ x. Found x [] number asked next new) is found
 
-      first : FirstSetUp lines
-      first = record { before = f.before; line = f.line; behind = next.lines; parts = f.parts; none = f.none; asked = asked; asks = f.asks }
+    abbrev pub first : FirstSetUp lines
+    first = record { before = f.before; line = f.line; behind = next.lines; parts = f.parts; none = f.none; asked = asked; asks = f.asks }
+
+    -- what comes of the set-up that was found comes of the first one
+    pub from_first : (P : SetUp → ℕ → Numbered → List Refusal → Type 0) → P asked number next new → P asked (number_of first) (behind_of first) (unread 1 first.before)
+    from_first P p = subst (λ n. P asked n (record { number = n + 1; lines = next.lines }) (unread 1 f.before)) f.place
+        (subst (λ rs. P asked number (record { number = number + 1; lines = next.lines }) rs) f.refused
+        (subst (λ m. P asked number (record { number = m; lines = next.lines }) new) f.follows p))
+
+    pub shows : (text : List ℕ) → Goes asked number next new text → Shows lines text
+    shows text does = with_set_up first (from_first (λ a n m before. Goes a n m before text) does)
+
+  -- without one, all lines are refused
+  pub none_first : (next : Numbered) (new : List Refusal) → Searched l [] None next new → NoSetUp lines × (new ≡ unread 1 lines)
+  none_first next new found = subst (λ x. Searched x [] None next new) is found
 
   pub shows_none : (next : Numbered) (new : List Refusal) (text : List ℕ) → Searched l [] None next new → text ≡ printed [] [] new → Shows lines text
-  shows_none next new text found shown =
-      let s = subst (λ x. Searched x [] None next new) is found in without_set_up s.0 (shown ∙ ap (printed [] []) s.1)
+  shows_none next new text found shown = let none = none_first next new found in without_set_up none.0 (shown ∙ ap (printed [] []) none.1)
 
 -- there is still a number for each line
 pub still : (l next : Numbered) (old new : List Refusal) (number : ℕ) (asked : SetUp) → Countable l → Found l old number asked next new → Countable next

@@ -10,7 +10,7 @@ use Rattle.wire.specs.Parties.{Client}
 use Rattle.clients.specs.Lines.{is_idle}
 use Rattle.clients.specs.Steps.{reading_next}
 use Rattle.stores.specs.Saved.{Shelf}
-use Rattle.sealers.specs.Sealing.{Desk}
+use Rattle.sealers.specs.Sealing.{Desk, none_beside}
 use Rattle.halls.specs.declared.fault.HallFault.{HallFault}
 use Rattle.halls.specs.declared.operation.Operation.{Operation}
 use Rattle.halls.specs.declared.seat.Seat.{Seat}
@@ -32,7 +32,7 @@ abbrev pub no_shelf : Shelf
 no_shelf = record { place = λ n. None; saves = None; next = 0 }
 
 abbrev pub no_desk : Desk
-no_desk = record { genuine = λ t s. false; seals = λ p. 0; given = λ t. record { 0 = 0 } }
+no_desk = record { genuine = λ t s. false; seals = λ p. 0; given = λ t. record { 0 = 0 }; beside = none_beside }
 
 clash : {P : Type 0} (b : Bool) → not b ≡ true → b ≡ true → P
 clash true e is = absurd (false≢true e)

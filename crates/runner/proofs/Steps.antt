@@ -13,14 +13,13 @@ use Rattle.halls.specs.declared.fault.HallFault.{HallFault}
 use Rattle.halls.specs.declared.fault.HallFault.TheVariants.{NotItsSlip}
 use Rattle.model.specs.Halls.{World}
 use Rattle.model.specs.Answers.{slip, refused}
-use Rattle.model.specs.Calls.{Call, Step, begin_write, redeem}
+use Rattle.model.specs.Calls.{Call, begin_write, redeem}
 use Rattle.register.specs.declared.slip.Slip.{Slip}
 use Rattle.register.specs.Worlds.{done_or, slip_or}
 use Rattle.runner.specs.declared.fault.ScriptFault.{ScriptFault}
 use Rattle.runner.specs.declared.fault.ScriptFault.TheVariants.{Unreadable, Kind, Hall}
-use Rattle.model.specs.Kinds.{bin_weights}
 use Rattle.runner.specs.Asks.{Asks, calls, over, asks, ending, lodging, lodging_again, spending, redeeming, writing}
-use Rattle.runner.specs.Plays.{Does, stops, goes_on}
+use Rattle.runner.specs.Plays.{BookStep, Does, stops, goes_on}
 use Rattle.runner.specs.Slips.{holds_its_slip}
 use Rattle.runner.specs.Views.{hall_fault, Lodges, Redeems}
 
@@ -38,16 +37,16 @@ as_kept {before} {after} {asked} given kept is does = subst (λ f. Does before a
 
 module _ {before after : World} where
   -- a line of one call
-  pub ends : {call : Call BinWeight} (r : Result (Unit {0}) HallFault) → Step bin_weights before call (done_or r) after → Does before (calls call ending) (hall_fault r) after
+  pub ends : {call : Call BinWeight} (r : Result (Unit {0}) HallFault) → BookStep before call (done_or r) after → Does before (calls call ending) (hall_fault r) after
   ends (Ok u) step = goes_on step stops
   ends (Err fault) step = goes_on step stops
 
   -- a begin that is refused
-  pub begins_not : {call : Call BinWeight} (fault : HallFault) → Step bin_weights before call (refused fault) after → Does before (calls call lodging) (Some (Hall fault)) after
+  pub begins_not : {call : Call BinWeight} (fault : HallFault) → BookStep before call (refused fault) after → Does before (calls call lodging) (Some (Hall fault)) after
   begins_not fault step = goes_on step stops
 
 -- a begin, and then its slip is lodged
-pub begins : {before between after : World} {call : Call BinWeight} (c k : ℕ) → Step bin_weights before call (slip c k) between → Lodges between c k after → Does before (calls call lodging) None after
+pub begins : {before between after : World} {call : Call BinWeight} (c k : ℕ) → BookStep before call (slip c k) between → Lodges between c k after → Does before (calls call lodging) None after
 begins c k step lodges = goes_on step (lodges None)
 
 module _ {before : World} {client : ℕ} where
@@ -57,18 +56,18 @@ module _ {before : World} {client : ℕ} where
   holding call {fault} {after} holds does =
       subst (λ asked. Does before asked fault after) (sym (cond-true (holds_its_slip before.hall client) _ _ holds)) does
 
-  module _ {between : World} {c k : ℕ} (holds : holds_its_slip before.hall client ≡ true) (redeemed : Step bin_weights before (redeem client) (slip c k) between) where
+  module _ {between : World} {c k : ℕ} (holds : holds_its_slip before.hall client ≡ true) (redeemed : BookStep before (redeem client) (slip c k) between) where
     pub spends : (call : ℕ → ℕ → Call BinWeight) {next : World} → Does between (calls (call c k) (lodging_again c k)) None next → Does before (redeeming call before.hall client) None next
     spends call does = holding call holds (goes_on redeemed does)
 
     -- the call is refused, and the slip is lodged again
-    pub spends_not : (call : ℕ → ℕ → Call BinWeight) {next after : World} (fault : HallFault) → Step bin_weights between (call c k) (refused fault) next → Lodges next c k after
+    pub spends_not : (call : ℕ → ℕ → Call BinWeight) {next after : World} (fault : HallFault) → BookStep between (call c k) (refused fault) next → Lodges next c k after
         → Does before (redeeming call before.hall client) (Some (Hall fault)) after
     spends_not call fault step lodges = holding call holds (goes_on redeemed (goes_on step (lodges (Some (Hall fault)))))
 
 -- what is redeemed is a slip, or ends the line
 pub redeems : {before after : World} (client : ℕ) (r : Result Slip HallFault) → holds_its_slip before.hall client ≡ true
-    → Step bin_weights before (redeem client) (slip_or r) after → Redeems before client r after
+    → BookStep before (redeem client) (slip_or r) after → Redeems before client r after
 redeems client (Ok s) holds step = (holds, step)
 redeems client (Err fault) holds step = λ call. holding call holds (goes_on step stops)
 

@@ -10,10 +10,24 @@ use Rattle.runner.specs.declared.fault.ScriptFault.{ScriptFault}
 use Rattle.runner.specs.declared.fault.ScriptFault.TheVariants.{Unreadable}
 use Rattle.runner.specs.Faults.{script_refusal}
 use Rattle.runner.specs.Asks.{asks}
-use Rattle.runner.specs.Plays.{Does, Plays, ended, line, told}
+use Rattle.runner.specs.Plays.{Does, ended, line, told}
 use Rattle.runner.specs.Texts.{Numbered, set_up_of}
 use Rattle.runner.specs.Outputs.{unread}
 use Rattle.runner.specs.Turns.{Searched, Played}
+
+-- a line is played
+abbrev pub played_line : {number : ℕ} {text : List ℕ} {rest : List (List ℕ)} {before between after : World} {fault : Option ScriptFault} {old new : List Refusal}
+    → Does before (asks before.hall (command_in (fields text))) fault between → Played (record { number = number + 1; lines = rest }) between (old ++ told number fault) after new
+    → Played (record { number = number; lines = text ∷ rest }) before old after new
+played_line {number = number} {fault = fault} {old = old} does p = record {
+  refusals = told number fault ++ p.refusals;
+  plays = line does p.plays;
+  refused = p.refused ∙ append_assoc old (told number fault) p.refusals;
+}
+
+-- no line is played
+abbrev pub played_none : {number : ℕ} {w : World} {old : List Refusal} → Played (record { number = number; lines = [] }) w old w old
+played_none {old = old} = record { refusals = []; plays = ended; refused = sym (append-nil old) }
 
 -- the lines from `first` on, where those of `rest` are left
 module _ (now rest : Numbered) (text : List ℕ) (lines : now.lines ≡ text ∷ rest.lines) (number : rest.number ≡ now.number + 1) where
@@ -51,15 +65,15 @@ module _ (now rest : Numbered) (text : List ℕ) (lines : now.lines ≡ text ∷
       → new ≡ added ++ unread rest.number rest.lines → new ≡ old ++ unread now.number now.lines
   unread_on old added new e all = all ∙ rw (e, lines, number) (append_assoc old (moved (script_refusal Unreadable) now.number ∷ []) (unread (now.number + 1) rest.lines))
 
-  -- a line is played
+  -- what is so of those lines, told one by one, is so of these
+  pub taken_on : (P Q : Numbered → Type 0) → P rest → (P (record { number = now.number + 1; lines = rest.lines }) → Q (record { number = now.number; lines = text ∷ rest.lines })) → Q now
+  taken_on P Q p on = subst Q (λ i. record { number = now.number; lines = sym lines i }) (on (subst P (λ i. record { number = number i; lines = rest.lines }) p))
+
   pub played_on : (before between after : World) (fault : Option ScriptFault) (old added new : List Refusal) → Does before (asks before.hall (command_in (fields text))) fault between
       → added ≡ old ++ told now.number fault → Played rest between added after new → Played now before old after new
-  played_on before between after fault old added new does e p = record {
-    refusals = told now.number fault ++ p.refusals;
-    plays = subst (λ ls. Plays now.number before ls (told now.number fault ++ p.refusals) after) (sym lines)
-        (line does (subst (λ n. Plays n between rest.lines p.refusals after) number p.plays));
-    refused = p.refused ∙ ap (λ rs. rs ++ p.refusals) e ∙ append_assoc old (told now.number fault) p.refusals;
-  }
+  played_on before between after fault old added new does e p =
+      taken_on (λ l. Played l between (old ++ told now.number fault) after new) (λ l. Played l before old after new)
+      (subst (λ rs. Played rest between rs after new) e p) (played_line does)
 
 -- no line is left
 module _ (now : Numbered) (none : now.lines ≡ []) where
@@ -69,5 +83,9 @@ module _ (now : Numbered) (none : now.lines ≡ []) where
   pub unread_all : (old : List Refusal) → old ≡ old ++ unread now.number now.lines
   unread_all old = rw none (sym (append-nil old))
 
+  -- what is so without a line is so of these
+  pub at_end : (P : Numbered → Type 0) → P (record { number = now.number; lines = [] }) → P now
+  at_end P = subst P (λ i. record { number = now.number; lines = sym none i })
+
   pub played_all : (w : World) (old : List Refusal) → Played now w old w old
-  played_all w old = record { refusals = []; plays = rw none ended; refused = sym (append-nil old) }
+  played_all w old = at_end (λ l. Played l w old w old) played_none

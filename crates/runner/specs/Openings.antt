@@ -6,7 +6,7 @@ use Rattle.kinds.specs.BinWeights.{weight, weight_word}
 use Rattle.wire.specs.Sets.{member}
 use Rattle.wire.specs.Parties.{party_of}
 use Rattle.stores.specs.Saved.{Shelf}
-use Rattle.sealers.specs.Sealing.{Desk}
+use Rattle.sealers.specs.Sealing.{Desk, none_beside}
 use Rattle.clients.specs.Lines.{idle_line}
 use Rattle.halls.specs.declared.fault.HallFault.{HallFault}
 use Rattle.halls.specs.declared.seat.Seat.{Seat}
@@ -58,6 +58,7 @@ fresh_book = record {
   genuine = λ text seal. false;
   seals = λ party. cond (is_some (party_of party)) 64 0;
   given = λ text. record { 0 = text.party * 64 };
+  beside = none_beside;
 }
 
 module _ (t : Lent) (shelf : Shelf) (desk : Desk) where

@@ -1,15 +1,17 @@
 -- What is printed for a script.
-use Rattle.std.specs.Prelude.{◌≡◌, ℕ, ◌+◌, List, [], ◌∷◌, ◌++◌, length, Some, None, Ok, Err, slice_index_or}
+use Rattle.std.specs.Prelude.{◌≡◌, ℕ, ◌+◌, false, List, [], ◌∷◌, ◌++◌, length, Some, None, Ok, Err, slice_index_or}
 use Rattle.std.specs.List.{AllByRecursion}
 use Rattle.kinds.specs.declared.bin_weight.BinWeight.{BinWeight}
 use Rattle.kinds.specs.BinWeights.{weight}
 use Rattle.refusals.specs.declared.Refusal.{Refusal}
+use Rattle.wire.specs.declared.pair.Seal.{Seal}
+use Rattle.wire.specs.declared.text.Text.{Text}
 use Rattle.script.specs.declared.command.SetUp.{SetUp}
 use Rattle.script.specs.Reports.{printed}
 use Rattle.model.specs.Halls.{World}
 use Rattle.model.specs.Calls.{Call, redeem}
-use Rattle.model.specs.Runs.{Run}
-use Rattle.model.specs.Promise.{Promised}
+use Rattle.model.specs.Runs.{Run, OnlyGiven}
+use Rattle.model.specs.Promise.{Promised, Keeps}
 use Rattle.runner.specs.declared.fault.ScriptFault.{ScriptFault}
 use Rattle.runner.specs.declared.fault.ScriptFault.TheVariants.{Unreadable}
 use Rattle.model.specs.Kinds.{bin_weights}
@@ -36,12 +38,13 @@ pub record FirstSetUp (lines : List (List ℕ)) : Type 0 where
   pub asked : SetUp
   pub asks : set_up_of line ≡ Some asked
 
--- a run of these calls from this world to that one
+-- a run of these calls from this world to that one, in which no seal is genuine but those that are given
 pub record RunOf (start last : World) (calls : List (Call BinWeight)) : Type 0 where
   pub run : Run bin_weights start
   pub many : run.calls ≡ length calls
   pub each : (i : ℕ) → run.call i ≡ slice_index_or calls i (redeem 0)
   pub ends : run.world run.calls ≡ last
+  pub only : OnlyGiven run
 
 -- the promise holds of a hall that was opened with the value that the set-up names
 pub record PromisedFor (asked : SetUp) (start : World) : Type 0 where
@@ -49,26 +52,31 @@ pub record PromisedFor (asked : SetUp) (start : World) : Type 0 where
   pub valued : weight asked.grams asked.lot ≡ Some value
   pub promised : Promised bin_weights value start
 
--- the hall was opened, and the promise holds of it; these lines were played, and their calls are a run;
--- what is printed is its last roll and log, and what was refused before and then
-pub record Ran (asked : SetUp) (l : Numbered) (before : List Refusal) (text : List ℕ) : Type 0 where
-  pub start : World
+-- the hall was opened, the promise holds of it, and no seal is genuine yet
+pub record Begun (asked : SetUp) (start : World) : Type 0 where
   pub opens : opening asked ≡ Ok start.hall
   pub promised : PromisedFor asked start
+  pub none : (t : Text) (s : Seal) → start.genuine t s ≡ false
+
+-- the hall was opened, these lines were played, their calls are a run, and it keeps the promise
+pub record Ran (asked : SetUp) (l : Numbered) : Type 0 where
+  pub start : World
+  pub begun : Begun asked start
   pub last : World
   pub refusals : List Refusal
   pub plays : Plays l.number start l.lines refusals last
   pub run : RunOf start last (calls_of plays)
-  pub shown : text ≡ printed last.hall.roll.list last.hall.log.list (before ++ refusals)
+  pub kept : Keeps begun.promised.value run.run
 
 -- nothing but refusals: those before, that of the set-up in the line of this number, and every line behind it
-abbrev pub refused_text : ℕ → Numbered → List Refusal → ScriptFault → List ℕ
-refused_text number l before fault = printed [] [] (before ++ (told number (Some fault) ++ unread l.number l.lines))
+abbrev pub all_refused : ℕ → Numbered → List Refusal → ScriptFault → List Refusal
+all_refused number l before fault = before ++ (told number (Some fault) ++ unread l.number l.lines)
 
--- what comes of a set-up in the line of this number, with these lines behind it and these refusals before it
+-- what comes of a set-up in the line of this number, with these lines behind it and these refusals before it:
+-- refusals alone, or the last roll and log of the run, and what was refused before it and in it
 pub data Goes (asked : SetUp) (number : ℕ) (l : Numbered) (before : List Refusal) (text : List ℕ) : Type 0 where
-  unopened : (fault : ScriptFault) → opening asked ≡ Err fault → text ≡ refused_text number l before fault → Goes asked number l before text
-  played : Ran asked l before text → Goes asked number l before text
+  unopened : (fault : ScriptFault) → opening asked ≡ Err fault → text ≡ printed [] [] (all_refused number l before fault) → Goes asked number l before text
+  played : (r : Ran asked l) → text ≡ printed r.last.hall.roll.list r.last.hall.log.list (before ++ r.refusals) → Goes asked number l before text
 
 -- the number of the set-up's line, and the lines behind it
 abbrev pub number_of : {lines : List (List ℕ)} → FirstSetUp lines → ℕ

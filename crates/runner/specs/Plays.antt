@@ -1,9 +1,10 @@
 -- A script over a hall: the calls of its lines, one after the other, each of them a step of the hall.
-use Rattle.std.specs.Prelude.{ℕ, ◌+◌, List, [], ◌∷◌, ◌++◌, Some, None, Option}
+use Rattle.std.specs.Prelude.{◌≡◌, ℕ, ◌+◌, List, [], ◌∷◌, ◌++◌, Some, None, Option}
 use Rattle.kinds.specs.declared.bin_weight.BinWeight.{BinWeight}
 use Rattle.refusals.specs.declared.Refusal.{Refusal}
 use Rattle.refusals.specs.Places.{moved}
 use Rattle.fields.specs.Parts.{fields}
+use Rattle.sealers.specs.Sealing.{none_beside}
 use Rattle.script.specs.Commands.{command_in}
 use Rattle.model.specs.Halls.{World}
 use Rattle.model.specs.Answers.{Answer}
@@ -13,11 +14,16 @@ use Rattle.runner.specs.Faults.{script_refusal}
 use Rattle.model.specs.Kinds.{bin_weights}
 use Rattle.runner.specs.Asks.{Asks, over, calls, asks}
 
+-- a call over a book: a step, and no seal becomes genuine but the one that is given
+pub record BookStep (before : World) (call : Call BinWeight) (answer : Answer BinWeight) (after : World) : Type 0 where
+  pub step : Step bin_weights before call answer after
+  pub only : before.left_open.beside ≡ none_beside
+
 -- what is asked takes a world to another, and is refused with this fault or not
 pub data Does : World → Asks → Option ScriptFault → World → Type 0 where
   stops : {w : World} {fault : Option ScriptFault} → Does w (over fault) fault w
   goes_on : {before between after : World} {call : Call BinWeight} {next : Answer BinWeight → Asks} {answer : Answer BinWeight} {fault : Option ScriptFault}
-      → Step bin_weights before call answer between → Does between (next answer) fault after → Does before (calls call next) fault after
+      → BookStep before call answer between → Does between (next answer) fault after → Does before (calls call next) fault after
 
 -- the calls that were made
 unfoldable pub calls_in : {before after : World} {asked : Asks} {fault : Option ScriptFault} → Does before asked fault after → List (Call BinWeight)

@@ -8,16 +8,15 @@ use Rattle.sealers.specs.Books.{book_desk}
 use Rattle.halls.specs.declared.fault.HallFault.{HallFault}
 use Rattle.model.specs.Halls.{World}
 use Rattle.model.specs.Answers.{slip}
-use Rattle.model.specs.Calls.{Call, Step, redeem, lodge}
+use Rattle.model.specs.Calls.{Call, redeem, lodge}
 use Rattle.register.specs.declared.slip.Slip.{Slip}
 use Rattle.register.specs.Worlds.{world_of}
 use Rattle.runner.specs.declared.fault.ScriptFault.{ScriptFault}
 use Rattle.runner.specs.declared.fault.ScriptFault.TheVariants.{Hall}
 use Rattle.runner.specs.declared.running.Running.{Running}
-use Rattle.model.specs.Kinds.{bin_weights}
 use Rattle.runner.specs.Slips.{holds_its_slip}
 use Rattle.runner.specs.Asks.{calls, over, redeeming}
-use Rattle.runner.specs.Plays.{Does}
+use Rattle.runner.specs.Plays.{BookStep, Does}
 
 abbrev pub world : Running → World
 world r = world_of r.hall r.tables (cabinet_shelf r.store) (book_desk r.sealer)
@@ -33,6 +32,6 @@ Lodges before c k after = (fault : Option ScriptFault) → Does before (calls (l
 -- the slip of a client's present operation is redeemed; where none is lodged, so ends every line that asks for it
 abbrev pub Redeems : World → ℕ → Result Slip HallFault → World → Type 0
 Redeems before client (Ok s) after =
-    (holds_its_slip before.hall client ≡ true) × Step bin_weights before (redeem client) (slip s.client s.operation) after
+    (holds_its_slip before.hall client ≡ true) × BookStep before (redeem client) (slip s.client s.operation) after
 Redeems before client (Err fault) after =
     (call : ℕ → ℕ → Call BinWeight) → Does before (redeeming call before.hall client) (Some (Hall fault)) after

@@ -12,5 +12,5 @@ pub use fault::ScriptFault;
 pub use lines::{LIMIT, Numbered, numbered};
 pub use memory::{Memory, SEALS};
 pub use opening::open;
-pub use play::{first_set_up, run};
+pub use play::{first_set_up, refuse_all, run};
 pub use running::Running;

@@ -1,11 +1,12 @@
 // A script from its first line to what is printed.
-ghost use Rattle.std.specs.Prelude.{◌≡◌, ◌++◌, take, IfOk, string_bytes};
+ghost use Rattle.std.specs.Prelude.{◌≡◌, [], ◌++◌, take, IfOk, string_bytes};
 ghost use Rattle.std.specs.Vec.{vec_items};
 ghost use Rattle.refusals.specs.Places.{moved};
+ghost use Rattle.script.specs.Reports.{printed};
 ghost use Rattle.runner.specs.Faults.{script_refusal};
 ghost use Rattle.runner.specs.Left.{left};
 ghost use Rattle.runner.specs.Texts.{limit, script_lines, set_up_of, Countable};
-ghost use Rattle.runner.specs.Outputs.{unread, refused_text, Goes, Shows};
+ghost use Rattle.runner.specs.Outputs.{unread, all_refused, Goes, Shows};
 ghost use Rattle.runner.specs.Turns.{Searched, Played};
 ghost use Rattle.runner.specs.Views.{world};
 
@@ -75,8 +76,7 @@ fn run_lines(
 
 // Refuses the lines that are left.
 fn refuse_lines(lines: Numbered, refusals: &mut Vec<Refusal>) -> Result<(), AllocError>
-    requires { Countable (left lines.a lines.b.start) }
-    ensures { IfOk result (λ done. vec_items refusals.new ≡ vec_items refusals.old ++ unread (left lines.entry.a lines.entry.b.start).number (left lines.entry.a lines.entry.b.start).lines) }
+    ensures { Countable (left lines.entry.a lines.entry.b.start) → IfOk result (λ done. vec_items refusals.new ≡ vec_items refusals.old ++ unread (left lines.entry.a lines.entry.b.start).number (left lines.entry.a lines.entry.b.start).lines) }
 {
     for (_, number) in lines {
         refusals.push(refusal_of(number, ScriptFault::Unreadable))?;
@@ -84,7 +84,20 @@ fn refuse_lines(lines: Numbered, refusals: &mut Vec<Refusal>) -> Result<(), Allo
     Ok(())
 }
 
-// What is printed where the set-up in the line of this number is refused: so are the lines behind it.
+// Refuses the set-up in the line of this number, and the lines behind it.
+pub fn refuse_all(
+    number: u64,
+    fault: ScriptFault,
+    lines: Numbered,
+    refusals: &mut Vec<Refusal>,
+) -> Result<(), AllocError>
+    ensures { Countable (left lines.entry.a lines.entry.b.start) → IfOk result (λ done. vec_items refusals.new ≡ all_refused number (left lines.entry.a lines.entry.b.start) (vec_items refusals.old) fault) }
+{
+    refusals.push(refusal_of(number, fault))?;
+    refuse_lines(lines, refusals)
+}
+
+// What is printed where the set-up in the line of this number is refused.
 fn unopened(
     heap: Global,
     number: u64,
@@ -93,10 +106,9 @@ fn unopened(
     mut refusals: Vec<Refusal>,
 ) -> Result<String, AllocError>
     requires { Countable (left lines.a lines.b.start) }
-    ensures { IfOk result (λ s. string_bytes s ≡ refused_text number (left lines.entry.a lines.entry.b.start) (vec_items refusals) fault) }
+    ensures { IfOk result (λ s. string_bytes s ≡ printed [] [] (all_refused number (left lines.entry.a lines.entry.b.start) (vec_items refusals) fault)) }
 {
-    refusals.push(refusal_of(number, fault))?;
-    refuse_lines(lines, &mut refusals)?;
+    refuse_all(number, fault, lines, &mut refusals)?;
     report(heap, &[], &[], refusals.as_slice())
 }
 

@@ -1,3 +1,4 @@
 pub mod KeyRows
 pub mod Rows
+pub mod Sealing
 pub mod Shares

@@ -1,13 +1,15 @@
--- A row of the book is written: one seal fewer for that party, the new seal genuine, and the others still. Assumes nothing.
-use Rattle.std.proofs.Common.{◌≡◌, ℕ, ◌+◌, ◌-◌, ◌*◌, ◌<◌, ◌≤◌, min, true, ◌&&◌, eqb, ltb, leb, length, get_or, set, is_some, Ok, sym, refl, ap, ◌∙◌, subst, ⊎_elim, mul_comm, mul-le-mul_left, mul-one, mul-add, arith, length-set, get_or-set_other, get_or-set_same}
+-- A row of the book is written: one seal fewer for that party, the new seal genuine, the others still, and no more. Assumes nothing.
+use Rattle.std.proofs.Common.{◌≡◌, ℕ, ◌+◌, ◌-◌, ◌*◌, ◌<◌, ◌≤◌, min, true, false, ◌&&◌, eqb, ltb, leb, length, replicate, get_or, set, is_some, Ok, sym, refl, ap, ◌∙◌, subst, ⊎_elim, mul_comm, mul-le-mul_left, mul-one, mul-add, arith, length-set, get_or-set_other, get_or-set_same}
 use Rattle.std.proofs.lemmas.Bool.{cases_eq, cases_lt, cases_order, cases_Bool, both_ways, cond-true, cond-false, eq-eqb, ne_eqb, le-leb, lt-ltb, leb-true, ltb-true, and_parts, and_from}
 use Rattle.std.proofs.lemmas.Bool.Decides.{nat_tests}
+use Rattle.std.proofs.lemmas.List.{get_or-replicate}
 use Rattle.wire.specs.declared.pair.Seal.{Seal}
 use Rattle.wire.specs.declared.text.Text.{Text}
 use Rattle.wire.specs.Parties.{party_of}
 use Rattle.sealers.specs.declared.book.Book.{Book}
-use Rattle.sealers.specs.Books.{same_text, no_text, next_row, end_row, book_seals, book_genuine, book_given}
-use Rattle.sealers.specs.Sealing.{spent, sealed}
+use Rattle.sealers.specs.Books.{no_text, next_row, end_row, book_seals, book_genuine, book_given, book_desk}
+use Rattle.sealers.specs.Sealing.{same_text, spent, sealed, genuine_with}
+use Rattle.sealers.proofs.Sealing.{same_itself, text_is, still_with, given_with, exactly}
 
 -- b' is b with the text in its party's next row
 pub record Written (b b' : Book) (text : Text) : Type 0 where
@@ -17,9 +19,6 @@ pub record Written (b b' : Book) (text : Text) : Type 0 where
   pub rows : b'.rows.now ≡ set b.rows.now (next_row b text.party) text
   pub share : b'.share ≡ b.share
   pub used : b'.used ≡ set b.used text.party (get_or b.used text.party 0 + 1)
-
-same_itself : (t : Text) → same_text t t ≡ true
-same_itself t = and_from _ _ (eq-eqb t.tag t.tag refl) (and_from _ _ (eq-eqb t.party t.party refl) (and_from _ _ (eq-eqb t.number t.number refl) (eq-eqb t.body t.body refl)))
 
 -- what it is for a seal to be genuine, part by part
 record Parts (b : Book) (t : Text) (s : Seal) : Type 0 where
@@ -53,6 +52,16 @@ has_seal b p some =
 
 pub party_below : (p : ℕ) → is_some (party_of p) ≡ true → p < 164
 party_below p e = ⊎_elim (λ lt. lt) (λ le. absurd (both_ways (is_some (party_of p)) (grind (arith, nat_tests)) e)) (cases_lt p 164)
+
+-- in an empty book no seal is genuine
+pub none_genuine : (b : Book) → b.used ≡ replicate 164 0 → (t : Text) (s : Seal) → book_genuine b t s ≡ false
+none_genuine b empty t s = ⊎_elim
+    (λ e.
+    let g = genuine_parts b t s e in
+    let none : get_or b.used t.party 0 ≡ 0 = ap (λ us. get_or us t.party 0) empty ∙ get_or-replicate {A = ℕ} 164 t.party 0 0 (party_below t.party g.party) in
+    absurd (omega (arith, g.low, g.used, none)))
+    (λ e. e)
+    (cases_Bool (book_genuine b t s))
 
 -- one row more is used
 fell : (first share used rows : ℕ) → first + min used share < min (first + share) rows → min (first + share) rows - (first + min (used + 1) share) ≡ min (first + share) rows - (first + min used share) - 1
@@ -98,7 +107,7 @@ module _ {b b' : Book} {text : Text} (w : Written b b' text) where
   unwritten : (s : ℕ) → (s ≡ next_row b text.party → ⊥) → get_or b'.rows.now s no_text ≡ get_or b.rows.now s no_text
   unwritten s ne = ap (λ l. get_or l s no_text) w.rows ∙ get_or-set_other b.rows.now (next_row b text.party) s text no_text ne
 
-  pub new_genuine : book_genuine b' text (record { 0 = next_row b text.party }) ≡ true
+  new_genuine : book_genuine b' text (record { 0 = next_row b text.party }) ≡ true
   new_genuine =
       let h = w.free in
       genuine_from b' text (record { 0 = next_row b text.party }) (record {
@@ -128,7 +137,7 @@ module _ {b b' : Book} {text : Text} (w : Written b b' text) where
       (λ after. apart text.party q b.share s after (omega arith) low))
       (cases_order q text.party)
 
-  pub still_genuine : (t : Text) (s : Seal) → book_genuine b t s ≡ true → book_genuine b' t s ≡ true
+  still_genuine : (t : Text) (s : Seal) → book_genuine b t s ≡ true → book_genuine b' t s ≡ true
   still_genuine t s g =
       let old = genuine_parts b t s g in
       let more = next_no_less t.party in
@@ -139,6 +148,37 @@ module _ {b b' : Book} {text : Text} (w : Written b b' text) where
         inside = rw as_many old.inside;
         holds = ap (λ x. same_text x t) (unwritten s.0 (other_row t.party s.0 old.low old.used)) ∙ old.holds;
       })
+
+  -- a row that is used now was used before, unless it is the one that was written
+  used_before : (q s : ℕ) → s < next_row b' q → (s ≡ next_row b text.party → ⊥) → s < next_row b q
+  used_before q s used other =
+      ⊎_elim
+      (λ e.
+      let now = subst (λ x. s < next_row b' x) e used in
+      let more : next_row b' text.party ≡ next_row b text.party + 1 = rw (w.share, used_there) (next_up (text.party * b.share) b.share (get_or b.used text.party 0) (length b.rows.now) w.free) in
+      ⊎_elim
+      (λ lt. subst (λ x. s < next_row b x) (sym e) lt)
+      (λ le. absurd (other (omega (arith, le, now, more))))
+      (cases_lt s (next_row b text.party)))
+      (λ ne. let same : next_row b' q ≡ next_row b q = rw (w.share, used_elsewhere q ne) refl in omega (arith, used, same))
+      (cases_eq q text.party)
+
+  old_or_new : (t : Text) (s : Seal) → book_genuine b' t s ≡ true → genuine_with (book_desk b) text t s ≡ true
+  old_or_new t s g =
+      let now = genuine_parts b' t s g in
+      ⊎_elim
+      (λ here. given_with (book_desk b) text t s (sym (text_is text t (ap (λ x. same_text x t) (sym (ap (λ k. get_or b'.rows.now k no_text) here ∙ written)) ∙ now.holds))) here)
+      (λ elsewhere. still_with (book_desk b) text t s (genuine_from b t s (record {
+        party = now.party;
+        low = rw (sym w.share) now.low;
+        used = used_before t.party s.0 now.used elsewhere;
+        inside = rw (sym as_many) now.inside;
+        holds = ap (λ x. same_text x t) (sym (unwritten s.0 elsewhere)) ∙ now.holds;
+      })))
+      (cases_eq s.0 (next_row b text.party))
+
+  pub genuine_now : book_genuine b' ≡ genuine_with (book_desk b) text
+  genuine_now = exactly (book_desk b) text (book_genuine b') (λ t s. refl) old_or_new still_genuine new_genuine
 
 -- what sealing has to show: b' has the text in this row, and the row is the party's next
 pub written_if : (b b' : Book) (text : Text) (row : ℕ) → row ≡ next_row b text.party → (book_seals b text.party ≡ 0 → ⊥) → length b.used ≡ 164 → b'.rows.now ≡ set b.rows.now row text → b'.share ≡ b.share → b'.used ≡ set b.used text.party (get_or b.used text.party 0 + 1) → Written b b' text

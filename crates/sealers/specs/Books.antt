@@ -5,11 +5,8 @@ use Rattle.wire.specs.declared.text.Text.{Text}
 use Rattle.wire.specs.Parties.{party_of}
 use Rattle.sealers.specs.declared.book.Book.{Book}
 use Rattle.sealers.specs.declared.fault.SealerFault.{SealerFault}
-use Rattle.sealers.specs.Sealing.{Desk}
+use Rattle.sealers.specs.Sealing.{Desk, same_text, none_beside}
 use Rattle.sealers.specs.declared.fault.SealerFault.TheVariants.{Limit}
-
-abbrev pub same_text : Text → Text → Bool
-same_text t u = t.tag == u.tag && (t.party == u.party && (t.number == u.number && t.body == u.body))
 
 abbrev pub no_text : Text
 no_text = record { tag = 0; party = 0; number = 0; body = 0 }
@@ -35,7 +32,7 @@ abbrev pub book_given : Book → Text → Seal
 book_given b t = record { 0 = next_row b t.party }
 
 abbrev pub book_desk : Book → Desk
-book_desk b = record { genuine = book_genuine b; seals = book_seals b; given = book_given b }
+book_desk b = record { genuine = book_genuine b; seals = book_seals b; given = book_given b; beside = none_beside }
 
 -- a share of 1 to 256 rows, and as many rows in all as 164 parties have
 abbrev pub book_fits : ℕ → ℕ → Bool

@@ -7,7 +7,7 @@ use Rattle.wire.specs.declared.pair.Seal.{Seal}
 use Rattle.wire.specs.declared.text.Text.{Text}
 use Rattle.wire.specs.Texts.{text_bytes}
 use Rattle.sealers.specs.declared.fault.SealerFault.{SealerFault}
-use Rattle.sealers.specs.Sealing.{Desk}
+use Rattle.sealers.specs.Sealing.{Desk, none_beside}
 use Rattle.sealers.specs.declared.fault.SealerFault.TheVariants.{Limit}
 use Rattle.sealers.specs.declared.keyed.Keyed.{Keyed}
 use Rattle.sealers.specs.declared.keyed.KeyRow.{KeyRow}
@@ -42,7 +42,7 @@ abbrev pub keyed_given : Keyed → Text → Seal
 keyed_given k t = unwrap_or (option_map (λ row. key_seal row t) (key_row k t.party)) (record { 0 = 0 })
 
 abbrev pub keyed_desk : Keyed → Desk
-keyed_desk k = record { genuine = keyed_genuine k; seals = keyed_seals k; given = keyed_given k }
+keyed_desk k = record { genuine = keyed_genuine k; seals = keyed_seals k; given = keyed_given k; beside = none_beside }
 
 -- 97 rows, none with more than 1,000,000 seals
 abbrev pub AllWithin : List KeyRow → Type 0

@@ -1,18 +1,18 @@
 // The interface of a sealer, by its meaning.
 ghost use Rattle.std.specs.Prelude.{◌≡◌};
-ghost use Rattle.sealers.specs.Sealing.{Desk, sealed, GenuineAfter};
+ghost use Rattle.sealers.specs.Sealing.{Desk, sealed, genuine_after};
 
 use crate::fault::SealerFault;
 use wire::{Seal, Text};
 
 pub trait Sealer {
-    // Which seals are genuine, how many each party has left, and which one a text would get.
+    // Which seals are genuine, how many each party has left, which one a text would get, and which others that would make genuine.
     ghost desk: { Self → Desk };
 
     // Seals a text for its party, unless that party has no seal left.
     fn seal(&mut self, text: Text) -> Result<Seal, SealerFault>
         ensures change { record { answer = result; seals = (desk self.new).seals } ≡ sealed (desk self.old).seals ((desk self.old).given text) text }
-        ensures grows { GenuineAfter (desk self.old).genuine text result (desk self.new).genuine };
+        ensures grows { (desk self.new).genuine ≡ genuine_after (desk self.old) text result };
 
     // Whether a seal is genuine for a text.
     fn check(&self, text: Text, seal: Seal) -> bool

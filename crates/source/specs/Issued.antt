@@ -1,5 +1,5 @@
 -- The source of configurations: which one comes next, and as which refusal each of its faults stands.
-use Rattle.std.specs.Prelude.{◌≡◌, ℕ, ◌+◌, Bool, cond, not, Ok, Err, Result, nat_lt}
+use Rattle.std.specs.Prelude.{ℕ, ◌+◌, Bool, cond, not, Ok, Err, Result, nat_lt}
 use Rattle.refusals.specs.declared.Refusal.{Refusal}
 use Rattle.refusals.specs.declared.Layer.TheVariants.{Hall}
 use Rattle.wire.specs.declared.pair.Configuration.{Configuration}
@@ -9,7 +9,7 @@ use Rattle.wire.specs.declared.text.Text.{Text}
 use Rattle.wire.specs.Texts.{configuration_text}
 use Rattle.sealers.specs.declared.fault.SealerFault.{SealerFault}
 use Rattle.sealers.specs.Faults.{sealer_refusal}
-use Rattle.sealers.specs.Sealing.{Desk, Sealed, sealed, GenuineAfter}
+use Rattle.sealers.specs.Sealing.{Desk, Sealed, sealed, genuine_after}
 use Rattle.source.specs.declared.fault.SourceFault.{SourceFault}
 use Rattle.source.specs.declared.fault.SourceFault.TheVariants.{UsedUp, Sealer}
 use Rattle.source.specs.declared.state.Source.{Source}
@@ -51,7 +51,7 @@ issued source set desk =
     (signing (sealed desk.seals (desk.given (next_text source set)) (next_text source set)) source set)
 
 -- which seals are genuine afterwards
-abbrev pub GenuineIssued : Source → ReplicaSet → Desk → (Text → Seal → Bool) → Type 0
-GenuineIssued source set desk after =
-    cond (not (nat_lt source.newest 4294967295)) (after ≡ desk.genuine)
-    (GenuineAfter desk.genuine (next_text source set) (sealed desk.seals (desk.given (next_text source set)) (next_text source set)).answer after)
+abbrev pub genuine_issued : Source → ReplicaSet → Desk → Text → Seal → Bool
+genuine_issued source set desk =
+    cond (not (nat_lt source.newest 4294967295)) desk.genuine
+    (genuine_after desk (next_text source set) (sealed desk.seals (desk.given (next_text source set)) (next_text source set)).answer)

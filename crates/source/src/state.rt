@@ -1,6 +1,6 @@
 // The source and its state.
 ghost use Rattle.std.specs.Prelude.{◌≡◌};
-ghost use Rattle.source.specs.Issued.{issued, GenuineIssued};
+ghost use Rattle.source.specs.Issued.{issued, genuine_issued};
 
 use crate::fault::SourceFault;
 use sealers::Sealer;
@@ -27,7 +27,7 @@ impl Source {
         sealer: &mut L,
     ) -> Result<Configuration, SourceFault>
         ensures change { record { answer = result; source = self.new; seals = (L.Sealer.desk sealer.new).seals } ≡ issued self.old set (L.Sealer.desk sealer.old) }
-        ensures grows { GenuineIssued self.old set (L.Sealer.desk sealer.old) (L.Sealer.desk sealer.new).genuine }
+        ensures grows { (L.Sealer.desk sealer.new).genuine ≡ genuine_issued self.old set (L.Sealer.desk sealer.old) }
     {
         let epoch = self.newest.checked_add(1).ok_or(SourceFault::UsedUp)?;
         let unsealed = Configuration {

@@ -20,7 +20,7 @@ pub short_run : ShortRun
 unfolding member inserted lib.Count.ones
 short_run = record {
   opened = opened 4 1 0 (omega arith) (omega arith) refl refl refl;
-  made = every_list bin_weights short.start (λ t s. refl) (calls_of short.script);
+  made = every_list bin_weights short.start (λ t s. refl) refl (calls_of short.script);
   answered = refl;
   log = refl;
 }
@@ -54,7 +54,7 @@ unfolding member inserted lib.Count.ones
 full_run = record {
   opening = opening_weight;
   opened = opened 5 2 8 (omega arith) (omega arith) refl refl refl;
-  made = every_list bin_weights start (λ t s. refl) (calls_of script);
+  made = every_list bin_weights start (λ t s. refl) refl (calls_of script);
   value = new_weight;
   new = heavier;
   write = 0;

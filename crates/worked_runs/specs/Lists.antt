@@ -1,27 +1,19 @@
 -- Lists of calls, made one after the other, with a sealer whose seals nobody else can give.
-use Rattle.std.specs.Prelude.{◌≡◌, ℕ, zero, suc, Bool, false, ◌&&◌, ◌||◌, List, [], ◌∷◌, length, Some, None, Option, ◌==◌, slice_index_or}
+use Rattle.std.specs.Prelude.{◌≡◌, ℕ, zero, suc, false, List, [], ◌∷◌, length, slice_index_or}
 use Rattle.wire.specs.declared.pair.Seal.{Seal}
 use Rattle.wire.specs.declared.text.Text.{Text}
+use Rattle.sealers.specs.Sealing.{none_beside}
 use Rattle.model.specs.Halls.{World, Kind}
 use Rattle.model.specs.Answers.{Answer}
-use Rattle.model.specs.Calls.{Call, redeem, called, sealed_in}
+use Rattle.model.specs.Calls.{Call, redeem, called, sealed_in, genuine_then}
 use Rattle.model.specs.Runs.{Run, Unforged}
 
-abbrev pub same_text : Text → Text → Bool
-same_text t u = (t.tag == u.tag && t.party == u.party) && (t.number == u.number && t.body == u.body)
-
--- which seals are genuine once a text, or none, was sealed: the one that it got as well
-abbrev pub genuine_after : Option Text → World → Text → Seal → Bool
-genuine_after None w = w.genuine
-genuine_after (Some sealed) w = λ t s. (same_text t sealed && s.0 == (w.given sealed).0) || w.genuine t s
-
--- the world after a call: its hall, and no seal is genuine that was not given
+-- the world after a call: its hall, and the seals that are genuine then
 abbrev pub after : {V : Type 0} → Kind V → Call V → World → World
 after kind call w = record {
   hall = (called kind call w).hall;
-  next = w.next;
-  genuine = genuine_after (sealed_in kind call w) w;
-  given = w.given;
+  genuine = genuine_then (sealed_in kind call w) w;
+  left_open = w.left_open;
 }
 
 -- the world before the call at a position of a list; behind its end, the last one
@@ -45,10 +37,10 @@ pub record RunOf {V : Type 0} (kind : Kind V) (start : World) (list : List (Call
   pub call : (i : ℕ) → run.call i ≡ call_at list i
   pub unforged : Unforged run
 
--- from a world in which no seal is genuine yet there is such a run for every list of calls
+-- from a world in which no seal is genuine yet, and none becomes so but those that are given, there is such a run for every list of calls
 abbrev pub EveryListRuns : {V : Type 0} → Kind V → Type 0
 EveryListRuns {V = V} kind =
-    (start : World) → ((t : Text) (s : Seal) → start.genuine t s ≡ false) → (list : List (Call V)) → RunOf kind start list
+    (start : World) → ((t : Text) (s : Seal) → start.genuine t s ≡ false) → start.left_open.beside ≡ none_beside → (list : List (Call V)) → RunOf kind start list
 
 -- a line of a script: a call, and what it is to answer
 pub record Line (V : Type 0) : Type 0 where

@@ -4,6 +4,7 @@ use Rattle.kinds.specs.declared.bin_weight.BinWeight.{BinWeight}
 use Rattle.kinds.specs.BinWeights.{weight_word}
 use Rattle.rules.specs.declared.rules.Rules.{Rules}
 use Rattle.rules.specs.Genuine.{first_configuration}
+use Rattle.sealers.specs.Sealing.{none_beside}
 use Rattle.model.specs.Halls.{Hall, World, no_entry, no_operation, no_configuration}
 use Rattle.model.specs.Runs.{first_card, first_seat}
 
@@ -43,7 +44,6 @@ opened_hall rules marked = record {
 abbrev pub opened_world : Rules → ℕ → World
 opened_world rules marked = record {
   hall = opened_hall rules marked;
-  next = 0;
   genuine = λ t s. false;
-  given = λ t. record { 0 = t.number };
+  left_open = record { next = 0; given = λ t. record { 0 = t.number }; beside = none_beside };
 }

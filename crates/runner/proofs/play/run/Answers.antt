@@ -29,7 +29,7 @@ returns-in-Some c =
     let found = subst (λ f. Searched lines (vec_items c.new-refusals.result) f next new) c.in-Some.is (c.in_ok-number.ensures (few text c.min.result lines c.min.ensures c.numbered-lines.ensures)) in
     let alone = subst (λ old. Searched lines old (Some (c.in-Some.number, c.in-Some.asked)) next new) c.new-refusals.ensures.items found in
     IfOk-weaker c.play.result _ _ (λ s does. subst (λ t. Shows (script_lines t) (string_bytes s)) read.1
-    (shows (script_lines (take c.min.result text)) lines c.numbered-lines.ensures c.in-Some.number c.in-Some.asked next new (string_bytes s) alone does)) c.play.ensures
+    (shows (script_lines (take c.min.result text)) lines c.numbered-lines.ensures c.in-Some.number c.in-Some.asked next new alone (string_bytes s) does)) c.play.ensures
 
 pub returns-in-None : goal.returns-in-None
 returns-in-None c =

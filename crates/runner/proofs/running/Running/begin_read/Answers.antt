@@ -17,9 +17,9 @@ lodge-requires c =
 pub returns : goal.returns
 returns c =
     let shelf = cabinet_shelf c.args.self.now.store in
-    begins c.in_ok-slip.slip.client c.in_ok-slip.slip.operation (record { outcome = c.in_ok-slip.ensures shelf; genuine = refl }) c.lodge.ensures
+    begins c.in_ok-slip.slip.client c.in_ok-slip.slip.operation (record { step = record { outcome = c.in_ok-slip.ensures shelf; genuine = refl }; only = refl }) c.lodge.ensures
 
 pub returns-in_err-slip : goal.returns-in_err-slip
 returns-in_err-slip c =
     let shelf = cabinet_shelf c.args.self.now.store in
-    as_passed _ _ c.from_residual.ensures.1 (begins_not _ (record { outcome = c.in_err-slip.ensures shelf; genuine = refl }))
+    as_passed _ _ c.from_residual.ensures.1 (begins_not _ (record { step = record { outcome = c.in_err-slip.ensures shelf; genuine = refl }; only = refl }))

@@ -29,12 +29,12 @@ pub returns-in-Ok : goal.returns-in-Ok
 returns-in-Ok c =
     let self = c.redeem.new.self in
     let redeemed = c.in_ok-slip.ensures.step in
-    spends redeemed.0 redeemed.1 collect (goes_on (record { outcome = c.in-Ok.ensures.change (cabinet_shelf self.store) (book_desk self.sealer); genuine = refl }) stops)
+    spends redeemed.0 redeemed.1 collect (goes_on (record { step = record { outcome = c.in-Ok.ensures.change (cabinet_shelf self.store) (book_desk self.sealer); genuine = refl }; only = refl }) stops)
 
 pub returns-in-Err : goal.returns-in-Err
 returns-in-Err c =
     let self = c.redeem.new.self in
     let redeemed = c.in_ok-slip.ensures.step in
     as_kept _ _ c.kept.ensures.fault (spends_not redeemed.0 redeemed.1 collect c.in-Err.kept.fault
-    (record { outcome = c.in-Err.ensures.change (cabinet_shelf self.store) (book_desk self.sealer); genuine = refl })
+    (record { step = record { outcome = c.in-Err.ensures.change (cabinet_shelf self.store) (book_desk self.sealer); genuine = refl }; only = refl })
     (subst (λ s. Lodges (world_of c.collect.new.self c.collect.new.tables (cabinet_shelf self.store) (book_desk self.sealer)) s.client s.operation (world c.kept.new.self)) c.in-Err.ensures.back c.kept.ensures.step))

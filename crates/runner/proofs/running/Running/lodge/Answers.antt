@@ -19,9 +19,9 @@ drop-requires c =
 pub returns-in-Ok : goal.returns-in-Ok
 returns-in-Ok c =
     let self = c.args.self.now in
-    λ fault. goes_on (record { outcome = c.lodge.ensures.change (cabinet_shelf self.store) (book_desk self.sealer); genuine = refl }) stops
+    λ fault. goes_on (record { step = record { outcome = c.lodge.ensures.change (cabinet_shelf self.store) (book_desk self.sealer); genuine = refl }; only = refl }) stops
 
 pub returns-in-Err : goal.returns-in-Err
 returns-in-Err c =
     let self = c.args.self.now in
-    λ fault. goes_on (record { outcome = c.in-Err.ensures.change (cabinet_shelf self.store) (book_desk self.sealer); genuine = refl }) stops
+    λ fault. goes_on (record { step = record { outcome = c.in-Err.ensures.change (cabinet_shelf self.store) (book_desk self.sealer); genuine = refl }; only = refl }) stops

@@ -15,7 +15,7 @@ returns c =
     let holds = sym c.holds_its_slip.ensures ∙ c.if-not-holds_its_slip.false in
     record {
       has = redeemed_if (world_of self.hall self.tables shelf desk) c.args.client c.redeem.result _ holds (c.redeem.ensures shelf desk);
-      step = redeems c.args.client c.redeem.result holds (record { outcome = c.redeem.ensures shelf desk; genuine = refl });
+      step = redeems c.args.client c.redeem.result holds (record { step = record { outcome = c.redeem.ensures shelf desk; genuine = refl }; only = refl });
     }
 
 pub returns-then-not-holds_its_slip : goal.returns-then-not-holds_its_slip

@@ -1,9 +1,9 @@
 -- The text stands in its party's next row, and nothing else has changed.
-use Rattle.std.proofs.Common.{◌≡◌, ◌+◌, ◌<◌, ◌≤◌, true, length, get_or, set, sym, refl, ap, length-set, ◌∙◌, subst, arith}
+use Rattle.std.proofs.Common.{◌≡◌, ◌+◌, ◌<◌, ◌≤◌, length, get_or, set, refl, ap, length-set, ◌∙◌, arith}
 use borrow.Rule.Slice.Mut.{set_vals}
 use Rattle.sealers.specs.declared.book.Book.{Book}
-use Rattle.sealers.specs.Books.{book_seals, book_genuine}
-use Rattle.sealers.proofs.Rows.{has_seal, party_below, written_if, change_if, new_genuine, still_genuine}
+use Rattle.sealers.specs.Books.{book_seals}
+use Rattle.sealers.proofs.Rows.{has_seal, party_below, written_if, change_if, genuine_now}
 use Rattle.sealers.proofs.Shares.{one_more_used}
 use Rattle.sealers.proofs.book.BookSealer.seal.Goals as goal
 
@@ -22,6 +22,6 @@ returns c =
     let b' : Book = record { rows = set_vals (set b.rows.now row text) b.rows; share = b.share; used = set b.used c.from.result (get_or b.used c.from.result 0 + 1); sized = length-set _ _ _ ∙ b.sized; within = one_more_used b.used b.share c.from.result (get_or b.used c.from.result 0 + 1) b.within there more } in
     let w = written_if b b' text row at some long refl refl (ap (λ k. set b.used k (get_or b.used k 0 + 1)) c.from.ensures) in
     record {
-      change = change_if row at some w;
-      grows = (subst (λ s. book_genuine b' text (record { 0 = s }) ≡ true) (sym at) (new_genuine w), still_genuine w);
+      change = change_if {b' = b'} row at some w;
+      grows = genuine_now {b' = b'} w;
     }
