@@ -13,7 +13,7 @@ use Rattle.runner.specs.Plays.{Does, told}
 use Rattle.runner.specs.Outputs.{Begun, all_refused}
 use Rattle.runner.specs.Texts.{Numbered}
 use Rattle.runner.specs.Turns.{Found, Searched}
-use Rattle.runner.proofs.Playing.{ran, first, from_first, none_first}
+use Rattle.runner.proofs.Playing.{ran, first, from_first}
 use Rattle.runner.proofs.Turns.{played_line, played_none, taken_on, at_end}
 use Rattle.charts.specs.Drawings.{watched, Seeing, drawn_text, Draws, of_refusals, of_run, Charts, without_set_up, with_set_up}
 use Rattle.charts.specs.Looks.{noticed}
@@ -58,10 +58,10 @@ module _ {S E : Type 0} (bytes : S → List ℕ) (r : Result S E) (asked : SetUp
       ∙ ap (drawn_text (watched p.played.plays (opened asked (row_of number))) (row_of (number + length l.lines))) p.played.refused))
 
 -- the lines of a script, of which the first set-up was found, or there is none
-module _ (lines : List (List ℕ)) (l : Numbered) (is : l ≡ record { number = 1; lines = lines }) (next : Numbered) (new : List Refusal) (text : List ℕ) where
-  pub charts : (number : ℕ) (asked : SetUp) → Found l [] number asked next new → Draws asked number next new text → Charts lines text
+module _ (lines : List (List ℕ)) (next : Numbered) (new : List Refusal) (text : List ℕ) where
+  pub charts : (number : ℕ) (asked : SetUp) → Found (record { number = 1; lines = lines }) [] number asked next new → Draws asked number next new text → Charts lines text
   charts number asked found drawn =
-      with_set_up (first lines l is number asked next new found) (from_first lines l is number asked next new found (λ a n m before. Draws a n m before text) drawn)
+      with_set_up (first lines number asked next new found) (from_first lines number asked next new found (λ a n m before. Draws a n m before text) drawn)
 
-  pub charts_none : Searched l [] None next new → text ≡ unopened_text new → Charts lines text
-  charts_none found shown = let none = none_first lines l is next new found in without_set_up none.0 (shown ∙ ap unopened_text none.1)
+  pub charts_none : Searched (record { number = 1; lines = lines }) [] None next new → text ≡ unopened_text new → Charts lines text
+  charts_none none shown = without_set_up none.0 (shown ∙ ap unopened_text none.1)

@@ -1,5 +1,5 @@
 -- The memory of a script's hall, and its store and book at the opening. Assumes nothing.
-use Rattle.std.proofs.Common.{◌≡◌, ℕ, ◌+◌, ◌-◌, ◌*◌, min, Bool, true, false, cond, List, [], ◌∷◌, length, replicate, take, length-append, get_or, is_some, None, Err, Result, IfOk, refl, ap, ◌∙◌, subst, arith}
+use Rattle.std.proofs.Common.{◌≡◌, ℕ, ◌+◌, ◌-◌, ◌*◌, min, Bool, true, false, cond, List, [], ◌∷◌, length, replicate, take, length-append, get_or, is_some, None, Err, Option, Result, IfOk, refl, ap, ◌∙◌, subst, arith}
 use Rattle.std.specs.Vec.{vec_items, vec_len}
 use Rattle.std.proofs.lemmas.List.{get_or-replicate, take-replicate}
 use Rattle.std.proofs.lemmas.Result.{IfOk-weaker}
@@ -21,10 +21,11 @@ use Rattle.runner.specs.declared.fault.ScriptFault.{ScriptFault}
 use Rattle.runner.specs.declared.memory.Memory.{Memory}
 use Rattle.runner.specs.Opened.{Fresh}
 use Rattle.runner.specs.Openings.{empty_seat, tables_for, empty_cabinet, fresh_book, opening_over, opening}
-use Rattle.runner.specs.Texts.{Numbered, Countable}
-use Rattle.runner.specs.Outputs.{Begun, Ran, FirstSetUp, Goes, unopened, played, Shows, without_set_up, with_set_up, NoSetUp, all_refused, unread, number_of, behind_of}
+use Rattle.runner.specs.Texts.{limit, script_lines, Numbered, Countable}
+use Rattle.runner.specs.Outputs.{Begun, Ran, FirstSetUp, Goes, unopened, played, Shows, without_set_up, with_set_up, all_refused, unread, number_of, behind_of}
 use Rattle.runner.specs.Turns.{Found, Searched, Played}
 use Rattle.runner.proofs.Chains.{run_to}
+use Rattle.runner.proofs.Texts.{few, read_of}
 
 -- empty tables over fresh places
 lent_as : (t : Lent) (clients : ℕ) → t.post.list ≡ [] → t.post.rest ≡ replicate 512 no_entry → t.log.list ≡ [] → t.log.rest ≡ replicate 64 no_operation
@@ -98,33 +99,38 @@ pub goes : {S E : Type 0} (bytes : S → List ℕ) (r : Result S E) (asked : Set
 goes bytes r asked number l before start last all begun p =
     IfOk-weaker r _ _ (λ s shown. played (ran begun p) (shown ∙ ap (printed last.hall.roll.list last.hall.log.list) p.refused))
 
--- nothing but the lines of the script behind the first set-up, or no set-up
-module _ (lines : List (List ℕ)) (l : Numbered) (is : l ≡ record { number = 1; lines = lines }) where
-  module _ (number : ℕ) (asked : SetUp) (next : Numbered) (new : List Refusal) (found : Found l [] number asked next new) where
-    pub f : Found (record { number = 1; lines = lines }) [] number asked next new
-    f = subst (λ x. Found x [] number asked next new) is found
+-- the search goes over the lines of the script, from the first on
+pub searched : (text : List ℕ) (n : ℕ) → n ≡ min (length text) limit → (l : Numbered) → l ≡ record { number = 1; lines = script_lines (take n text) }
+    → (old : List Refusal) → old ≡ [] → (found : Option (ℕ × SetUp)) (next : Numbered) (new : List Refusal) → (Countable l → Searched l old found next new)
+    → Searched (record { number = 1; lines = script_lines (take limit text) }) [] found next new
+searched text n is l lines old none found next new so =
+    subst (λ t. Searched (record { number = 1; lines = script_lines t }) [] found next new) (read_of text n is).1
+    (subst (λ m. Searched m [] found next new) lines (subst (λ o. Searched l o found next new) none (so (few text n l is lines))))
 
+-- the lines behind the first set-up, or none
+module _ (lines : List (List ℕ)) where
+  module _ (number : ℕ) (asked : SetUp) (next : Numbered) (new : List Refusal) (found : Found (record { number = 1; lines = lines }) [] number asked next new) where
     abbrev pub first : FirstSetUp lines
-    first = record { before = f.before; line = f.line; behind = next.lines; parts = f.parts; none = f.none; asked = asked; asks = f.asks }
+    first = record { before = found.before; line = found.line; behind = next.lines; parts = found.parts; none = found.none; asked = asked; asks = found.asks }
 
     -- what comes of the set-up that was found comes of the first one
     pub from_first : (P : SetUp → ℕ → Numbered → List Refusal → Type 0) → P asked number next new → P asked (number_of first) (behind_of first) (unread 1 first.before)
-    from_first P p = subst (λ n. P asked n (record { number = n + 1; lines = next.lines }) (unread 1 f.before)) f.place
-        (subst (λ rs. P asked number (record { number = number + 1; lines = next.lines }) rs) f.refused
-        (subst (λ m. P asked number (record { number = m; lines = next.lines }) new) f.follows p))
+    from_first P p = subst (λ n. P asked n (record { number = n + 1; lines = next.lines }) (unread 1 found.before)) found.place
+        (subst (λ rs. P asked number (record { number = number + 1; lines = next.lines }) rs) found.refused
+        (subst (λ m. P asked number (record { number = m; lines = next.lines }) new) found.follows p))
 
     pub shows : (text : List ℕ) → Goes asked number next new text → Shows lines text
     shows text does = with_set_up first (from_first (λ a n m before. Goes a n m before text) does)
 
-  -- without one, all lines are refused
-  pub none_first : (next : Numbered) (new : List Refusal) → Searched l [] None next new → NoSetUp lines × (new ≡ unread 1 lines)
-  none_first next new found = subst (λ x. Searched x [] None next new) is found
-
-  pub shows_none : (next : Numbered) (new : List Refusal) (text : List ℕ) → Searched l [] None next new → text ≡ printed [] [] new → Shows lines text
-  shows_none next new text found shown = let none = none_first next new found in without_set_up none.0 (shown ∙ ap (printed [] []) none.1)
+  pub shows_none : (next : Numbered) (new : List Refusal) (text : List ℕ) → Searched (record { number = 1; lines = lines }) [] None next new → text ≡ printed [] [] new → Shows lines text
+  shows_none next new text none shown = without_set_up none.0 (shown ∙ ap (printed [] []) none.1)
 
 -- there is still a number for each line
-pub still : (l next : Numbered) (old new : List Refusal) (number : ℕ) (asked : SetUp) → Countable l → Found l old number asked next new → Countable next
-still l next old new number asked few f =
-    let many : length l.lines ≡ length f.before + (length next.lines + 1) = ap length f.parts ∙ length-append f.before (f.line ∷ next.lines) ∙ omega arith in
-    omega (arith, few, f.place, f.follows, many)
+pub still : (text : List ℕ) (next : Numbered) (new : List Refusal) (number : ℕ) (asked : SetUp)
+    → Found (record { number = 1; lines = script_lines (take limit text) }) [] number asked next new → Countable next
+still text next new number asked f =
+    let n = min (length text) limit in
+    let l = script_lines (take limit text) in
+    let numbers = subst (λ t. Countable (record { number = 1; lines = script_lines t })) (read_of text n refl).1 (few text n (record { number = 1; lines = script_lines (take n text) }) refl refl) in
+    let many : length l ≡ length f.before + (length next.lines + 1) = ap length f.parts ∙ length-append f.before (f.line ∷ next.lines) ∙ omega arith in
+    omega (arith, numbers, f.place, f.follows, many)
