@@ -19,17 +19,12 @@ use crate::layout::Layout;
 use crate::look::{command, moves};
 use crate::mark::Mark;
 use crate::watch::{Watch, margin, row_of};
-use halls::HallFault;
-use lists::List;
 use refusals::{Fault, Refusal};
-use register::Tables;
 use runner::{
-    LIMIT, Memory, Numbered, Running, SEALS, ScriptFault, first_set_up, numbered, open, refuse_all,
+    LIMIT, Memory, Numbered, Opening, Running, ScriptFault, first_set_up, numbered, refuse_all,
 };
 use script::{Command, SetUp};
-use sealers::Book;
 use std::alloc::{AllocError, Global};
-use stores::Cabinet;
 
 // Looks at the tables and the store after a row.
 fn look(heap: Global, watch: &mut Watch, running: &Running, row: u16) -> Result<(), AllocError>
@@ -147,31 +142,13 @@ fn opened(
     ensures { IfOk result (λ s. Draws asked number (left lines.entry.a lines.entry.b.start) (vec_items refusals) (string_bytes s)) }
 {
     let mut memory = Memory::new(heap)?;
-    let clients = memory.seats.len().min(asked.clients as usize);
-    let mut tables = Tables {
-        post: List::new(memory.post.as_mut_slice()),
-        log: List::new(memory.log.as_mut_slice()),
-        roll: List::new(memory.roll.as_mut_slice()),
-        seats: &mut memory.seats.as_mut_slice()[..clients],
-    };
-    let mut store = Cabinet::new();
-    let Ok(sealer) = Book::open(memory.rows.as_mut_slice(), SEALS) else {
-        let fault = ScriptFault::Hall(HallFault::Limit);
-        return refused(heap, number, fault, lines, refusals);
-    };
-    match open(asked, &mut tables, &mut store, &sealer) {
-        Ok(hall) => {
+    match Running::open(&mut memory, asked) {
+        Opening::Open(mut running) => {
             let mut watch = Watch::new(heap, asked, row_of(number))?;
-            let mut running = Running {
-                hall,
-                tables,
-                store,
-                sealer,
-            };
             let last = watch_lines(heap, &mut watch, &mut running, number, lines, &mut refusals)?;
             watch.drawn(heap, row_of(last), refusals.as_slice())
         }
-        Err(fault) => refused(heap, number, fault, lines, refusals),
+        Opening::Refused(fault) => refused(heap, number, fault, lines, refusals),
     }
 }
 

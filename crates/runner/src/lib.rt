@@ -10,7 +10,6 @@ mod running;
 
 pub use fault::ScriptFault;
 pub use lines::{LIMIT, Numbered, numbered};
-pub use memory::{Memory, SEALS};
-pub use opening::open;
+pub use memory::Memory;
 pub use play::{first_set_up, refuse_all, run};
-pub use running::Running;
+pub use running::{Opening, Running};

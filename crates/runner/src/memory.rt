@@ -8,7 +8,7 @@ use std::alloc::{AllocError, Global};
 use wire::{Configuration, Entry, Pair, Text};
 
 // How many seals each party has.
-pub const SEALS: u16 = 64;
+pub(crate) const SEALS: u16 = 64;
 
 // The places of each table and the rows of the book, before a hall borrows them.
 #[derive(Drop)]

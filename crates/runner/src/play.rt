@@ -12,17 +12,11 @@ ghost use Rattle.runner.specs.Views.{world};
 
 use crate::fault::ScriptFault;
 use crate::lines::{LIMIT, Numbered, numbered};
-use crate::memory::{Memory, SEALS};
-use crate::opening::open;
-use crate::running::Running;
-use halls::HallFault;
-use lists::List;
+use crate::memory::Memory;
+use crate::running::{Opening, Running};
 use refusals::{Fault, Refusal};
-use register::Tables;
 use script::{Command, SetUp, report};
-use sealers::Book;
 use std::alloc::{AllocError, Global};
-use stores::Cabinet;
 
 // The set-up that a line asks for.
 fn set_up(line: &[u8]) -> Option<SetUp>
@@ -124,30 +118,12 @@ fn play(
     ensures { IfOk result (λ s. Goes asked number (left lines.entry.a lines.entry.b.start) (vec_items refusals) (string_bytes s)) }
 {
     let mut memory = Memory::new(heap)?;
-    let clients = memory.seats.len().min(asked.clients as usize);
-    let mut tables = Tables {
-        post: List::new(memory.post.as_mut_slice()),
-        log: List::new(memory.log.as_mut_slice()),
-        roll: List::new(memory.roll.as_mut_slice()),
-        seats: &mut memory.seats.as_mut_slice()[..clients],
-    };
-    let mut store = Cabinet::new();
-    let Ok(sealer) = Book::open(memory.rows.as_mut_slice(), SEALS) else {
-        let fault = ScriptFault::Hall(HallFault::Limit);
-        return unopened(heap, number, fault, lines, refusals);
-    };
-    match open(asked, &mut tables, &mut store, &sealer) {
-        Ok(hall) => {
-            let mut running = Running {
-                hall,
-                tables,
-                store,
-                sealer,
-            };
+    match Running::open(&mut memory, asked) {
+        Opening::Open(mut running) => {
             run_lines(&mut running, lines, &mut refusals)?;
             running.report(heap, refusals.as_slice())
         }
-        Err(fault) => unopened(heap, number, fault, lines, refusals),
+        Opening::Refused(fault) => unopened(heap, number, fault, lines, refusals),
     }
 }
 

@@ -8,15 +8,20 @@ ghost use Rattle.script.specs.Reports.{printed};
 ghost use Rattle.model.specs.Calls.{issue, begin_read, begin_write, deliver, call_off, collect, meddle};
 ghost use Rattle.runner.specs.Slips.{HasSlip, holds_its_slip};
 ghost use Rattle.runner.specs.Asks.{asks, calls, ending, lodging, redeeming, writing};
+ghost use Rattle.runner.specs.Opened.{Fresh};
 ghost use Rattle.runner.specs.Plays.{Does};
+ghost use Rattle.runner.specs.Turns.{Begins};
 ghost use Rattle.runner.specs.Views.{world, hall_fault, Lodges, Redeems};
 
 use crate::fault::ScriptFault;
+use crate::memory::{Memory, SEALS};
+use crate::opening::open;
 use halls::HallFault;
 use kinds::BinWeight;
+use lists::List;
 use refusals::Refusal;
 use register::{Hall, Kept, Slip, Tables};
-use script::{Command, report};
+use script::{Command, SetUp, report};
 use sealers::Book;
 use std::alloc::{AllocError, Global};
 use stores::Cabinet;
@@ -28,6 +33,41 @@ pub struct Running<'a> {
     pub tables: Tables<'a>,
     pub store: Cabinet,
     pub sealer: Book<'a>,
+}
+
+// What comes of a set-up.
+// Stays: a `Result` in all but its name; one of a struct that borrows and has what contracts alone see is not covered by the toolchain's borrow checker.
+pub enum Opening<'a> {
+    Open(Running<'a>),
+    Refused(ScriptFault),
+}
+
+impl<'a> Running<'a> {
+    // The hall that a set-up asks for, with its tables and its book in this memory, and an empty cabinet.
+    pub fn open(memory: &'a mut Memory, asked: SetUp) -> Opening<'a>
+        ensures { Fresh memory.old → Begins asked result }
+    {
+        let clients = memory.seats.len().min(asked.clients as usize);
+        let mut tables = Tables {
+            post: List::new(memory.post.as_mut_slice()),
+            log: List::new(memory.log.as_mut_slice()),
+            roll: List::new(memory.roll.as_mut_slice()),
+            seats: &mut memory.seats.as_mut_slice()[..clients],
+        };
+        let mut store = Cabinet::new();
+        let Ok(sealer) = Book::open(memory.rows.as_mut_slice(), SEALS) else {
+            return Opening::Refused(ScriptFault::Hall(HallFault::Limit));
+        };
+        match open(asked, &mut tables, &mut store, &sealer) {
+            Ok(hall) => Opening::Open(Running {
+                hall,
+                tables,
+                store,
+                sealer,
+            }),
+            Err(fault) => Opening::Refused(fault),
+        }
+    }
 }
 
 impl Running<'_> {
