@@ -118,6 +118,21 @@ module _ {kind : ℕ} {sealed : List Text} {w : World} (holds : Holds kind seale
 
   -- an honest replica that answers the READ of a round, or its WRITE, does so in the epoch of that round
   module _ (n : ℕ) (lt : n < length w.hall.post.list) {q c r : ℕ} (from : (entry_of w.hall n).sender ≡ 100 + q) (to : (entry_of w.hall n).addressee ≡ c) (in_round : (entry_of w.hall n).round ≡ r) (honest : Honest (views w.hall) q) where
+    -- and the READ or the WRITE of that round was posted before
+    pub was_read : (entry_of w.hall n).kind ≡ 4 → Posted (ReadEntry c r (entry_of w.hall n).epoch) (history w.hall)
+    was_read kind_is =
+        let x = entry_of w.hall n in
+        let there = posted_good w.hall n lt holds.good in
+        let rule = there.justified.pair {q = q} {e = x.epoch} {s = stamp_number (pair_of x)} (record { sender = from; kind = kind_is; epoch = refl; stamp = refl }) honest in
+        subst₂ (λ d m. Posted (ReadEntry d m x.epoch) (history w.hall)) to in_round (somewhere_grows there.beneath rule.asked)
+
+    pub was_written : (entry_of w.hall n).kind ≡ 5 → (s : ℕ) × Posted (WriteEntry c r (entry_of w.hall n).epoch s) (history w.hall)
+    was_written kind_is =
+        let x = entry_of w.hall n in
+        let there = posted_good w.hall n lt holds.good in
+        let rule = there.justified.ack {q = q} {e = x.epoch} {c = c} {r = r} (record { sender = from; kind = kind_is; addressee = to; round = in_round; epoch = refl }) honest in
+        (rule.written, somewhere_grows there.beneath rule.asked)
+
     pub pair_epoch : {e : ℕ} → (entry_of w.hall n).kind ≡ 4 → Posted (ReadEntry c r e) (history w.hall) → (entry_of w.hall n).epoch ≡ e
     pair_epoch kind_is asked =
         let x = entry_of w.hall n in

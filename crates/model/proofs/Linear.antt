@@ -11,7 +11,7 @@ use Rattle.orders.specs.Order.{◌∈◌, Operations, Precedes, last_written, St
 use Rattle.orders.specs.Order.Origin.{the_opening as from_opening, a_write as from_write}
 use Rattle.orders.proofs.Theorem.{stamped_operations_have_an_order}
 use Rattle.model.specs.Halls.{Hall, World, Kind, operation_of, end_of}
-use Rattle.model.specs.Order.{Operation, Ended, Finished, Writes, value_written, newer, held_after, InOrder, Linearizable}
+use Rattle.model.specs.Order.{Operation, Ended, Gives, Finished, Writes, value_written, newer, held_after, InOrder, Linearizable}
 use Rattle.model.specs.Runs.{Lawful, Opened, Run, Unforged}
 use Rattle.model.proofs.Effects.{BeginCall, by_read, by_write}
 use Rattle.model.proofs.Events.{EndedLog, begins_slip}
@@ -20,7 +20,7 @@ use Rattle.model.proofs.Growing.{Grows}
 use Rattle.model.proofs.Invariants.{stamp_number, StampedWrite, KnownPair, the_opening, a_write as of_a_write, OverBefore, Holds}
 use Rattle.model.proofs.RunKeeps.{sealed_at, holds_at}
 use Rattle.model.proofs.Tables.{ended_logged}
-use Rattle.model.proofs.Trace.{slips_there, grows, StartOf, started, operation_started, Told, told, found_start, found_end, opening_stays, end_client, ended_valued, ended_told, end_seen}
+use Rattle.model.proofs.Trace.{slips_there, grows, StartOf, started, operation_started, Told, told, found_start, found_end, opening_stays, end_client, ended_valued, ended_told, end_seen, collected}
 use Rattle.wire.specs.declared.text.Text.{Text}
 use Rattle.model.proofs.Ways.{some_same, not_some}
 
@@ -188,6 +188,20 @@ module _ {V : Type 0} (kind : Kind V) (v : V) (start : World) (lawful : Lawful k
       let t = end_seen kind v start lawful opened run unforged run.calls o p u e e.within (omega arith) in
       record { begun = there.1; logged = there.0; over = t.over; moment = t.moment; value = t.value }
 
+  -- what collect would answer at some position, seen in the last log
+  record LastGiven (o : ℕ) (u : V) (k : ℕ) : Type 0 where
+    begun : where_begun k ≡ o
+    logged : k < length last.log.list
+    value : kind.value (operation_of last k).pair.word ≡ Some u
+
+  last_given : (o i : ℕ) (u : V) (g : Gives run o i u) → LastGiven o u g.place
+  unfolding last
+  last_given o i u g =
+      let there = place_in o g.client g.place g.operation in
+      let c = collected kind v start lawful opened run unforged i g.client g.place u g.within g.answers in
+      let later = grows kind v start lawful opened run unforged i run.calls g.within (omega arith) in
+      record { begun = there.1; logged = there.0; value = ap (λ q. kind.value q.word) (later.pair g.place c.over) ∙ c.value }
+
   -- what is ended in the last log has ended in the run
   finished : (k : ℕ) → k < length last.log.list → 0 < end_of (operation_of last k) → Finished run (where_begun k)
   unfolding last
@@ -314,10 +328,10 @@ module _ {V : Type 0} (kind : Kind V) (v : V) (start : World) (lawful : Lawful k
               let g : Grows (run.world (p + 1)).hall (run.world (where_begun a)).hall = grows kind v start lawful opened run unforged (p + 1) (where_begun a) (omega arith) (omega arith) in
               omega (arith, ended, began, g.moment)
 
-      reads : (front back : List ℕ) (j p : ℕ) (u : V) → map where_begun places ≡ front ++ (j ∷ back) → value_written (run.call j) ≡ None → Ended run j p u → u ≡ held_after run v front
+      reads : (front back : List ℕ) (j p : ℕ) (u : V) → map where_begun places ≡ front ++ (j ∷ back) → value_written (run.call j) ≡ None → Gives run j p u → u ≡ held_after run v front
       reads front back j p u is none e =
           let s = split_from where_begun places front back j is in
-          let t = last_end j p u e in
+          let t = last_given j p u e in
           let lower = (in_log s.at (split_at s)).lower in
           let same = one_place e.place s.at t.logged lower (t.begun ∙ sym s.at_is) in
           let no_write = written_at s.at lower ∙ ap (λ o. is_some (value_written (run.call o))) s.at_is ∙ ap (λ z. is_some z) none in

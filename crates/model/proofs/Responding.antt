@@ -39,7 +39,7 @@ use Rattle.model.proofs.Events.{begins_slip}
 use Rattle.model.proofs.Frames.{posted_as}
 use Rattle.model.proofs.Growing.{along}
 use Rattle.model.proofs.Handing.{Counts, post_small, sent_within, move_counts, heeded_pair, heeded_ack, handed_counts}
-use Rattle.model.proofs.Heard.{read_posted, pair_epoch, ack_epoch}
+use Rattle.model.proofs.Heard.{read_posted, pair_epoch, ack_epoch, was_read, was_written}
 use Rattle.model.proofs.Invariants.{views, history, issued_as, stamp_number, SeatRule, Holds}
 use Rattle.model.proofs.Parties.{client_numbered, replica_numbered}
 use Rattle.model.proofs.RunKeeps.{sealed_at, holds_at, unforged_at}
@@ -212,33 +212,44 @@ module _ {V : Type 0} (kind : Kind V) (v : V) (start : World) (lawful : Lawful k
   answer_kinds to_read = inl (refl, refl)
   answer_kinds to_write = inr (refl, refl)
 
-  -- what is handed to client c at position p, of an honest replica, for the round that is open there
+  -- what is handed to client c at position p, of an honest replica
   module _ (q c r p : ℕ) (within : p < run.calls) (number asked : ℕ) (call : run.call p ≡ deliver number c) (posted : number < length (hall_at p).post.list)
       (sender : (entry_of (hall_at p) number).sender ≡ 100 + q) (addressee : (entry_of (hall_at p) number).addressee ≡ c) (round : (entry_of (hall_at p) number).round ≡ r)
-      (o : Open run p c r asked) (answers : AnswersTo asked (entry_of (hall_at p) number).kind) (room : is_full (hall_at p).post ≡ false) (unmarked : member start.hall.marked q ≡ false) where
-    le : p ≤ run.calls
-    le = omega arith
+      (low : 1 ≤ c) (high : c ≤ start.hall.rules.clients) (answers : AnswersTo asked (entry_of (hall_at p) number).kind) (room : is_full (hall_at p).post ≡ false) (unmarked : member start.hall.marked q ≡ false) where
+   le : p ≤ run.calls
+   le = omega arith
 
-    seat_open : OpenSeat p c o.under_way.place
-    seat_open = open_seat p c r asked le o
+   here : Holds kind.number (sealed_at kind v start lawful opened run unforged p) (run.world p)
+   here = holds p le
 
-    here : Holds kind.number (sealed_at kind v start lawful opened run unforged p) (run.world p)
-    here = holds p le
+   high_there : c ≤ (hall_at p).rules.clients
+   high_there = subst (λ r. c ≤ r.clients) (sym (opening_stays kind v start lawful opened run unforged p le)) high
 
-    high_there : c ≤ (hall_at p).rules.clients
-    high_there = high_here p c r asked le o
+   rule : SeatRule kind.number (run.world p) c (seat_of (hall_at p) c)
+   rule = here.seats c low high_there
 
-    rule : SeatRule kind.number (run.world p) c (seat_of (hall_at p) c)
-    rule = mine p c r asked le o
+   honest : Honest (views (hall_at p)) q
+   honest = record { unmarked = ap (λ m. member m q) (marked_same p le) ∙ unmarked }
 
+   client : Client
+   client = client_numbered c low (omega (arith, high, opened.clients))
+
+   -- the client has asked for it: its line has come to the round
+   has_asked : r ≤ (seat_of (hall_at p) c).line.round
+   has_asked = by_kind (answer_kinds answers)
+     where
+       by_kind : ((asked ≡ 1) × ((entry_of (hall_at p) number).kind ≡ 4)) ⊎ ((asked ≡ 2) × ((entry_of (hall_at p) number).kind ≡ 5)) → r ≤ (seat_of (hall_at p) c).line.round
+       by_kind (inl a) = rule.reads {e = (entry_of (hall_at p) number).epoch} (was_read here number posted sender addressee round honest a.1)
+       by_kind (inr a) = let w = was_written here number posted sender addressee round honest a.1 in rule.writes {e = (entry_of (hall_at p) number).epoch} {s = w.0} w.1
+
+   -- for the round that is open there
+   module _ (line : OpenLine p c r asked) where
     in_round : (entry_of (hall_at p) number).round ≡ (seat_of (hall_at p) c).line.round
-    in_round = round ∙ line_round p c r asked le o
-
-    honest : Honest (views (hall_at p)) q
-    honest = record { unmarked = ap (λ m. member m q) (marked_same p le) ∙ unmarked }
-
-    client : Client
-    client = client_numbered c seat_open.low (omega (arith, seat_open.high, opened.clients))
+    in_round = round ∙ by_line line
+      where
+        by_line : OpenLine p c r asked → r ≡ (seat_of (hall_at p) c).line.round
+        by_line (reads k stage r) = r
+        by_line (writes k stage r) = r
 
     -- it is of the epoch of the round, and its sender a member of the client's set
     record Member : Type 0 where
@@ -255,7 +266,7 @@ module _ {V : Type 0} (kind : Kind V) (v : V) (start : World) (lawful : Lawful k
 
     counts_by : Member → Counts (seat_of (hall_at p) c).line (seat_of (hall_at (p + 1)) c).line q
     unfolding client
-    counts_by m = by_kind (answer_kinds answers) (open_line p c r asked le o)
+    counts_by m = by_kind (answer_kinds answers) (line)
       where
         from : Replica
         from = replica_numbered q m.small
@@ -273,7 +284,7 @@ module _ {V : Type 0} (kind : Kind V) (v : V) (start : World) (lawful : Lawful k
         outcome = ap (λ x. called kind x (run.world p)) (sym call) ∙ sym (run.steps p within).outcome
 
         onward : Onward (seat_of (hall_at p) c).line (seat_of (hall_at (p + 1)) c).line
-        onward = turn_onward (turn_at p c within seat_open.low seat_open.high)
+        onward = turn_onward (turn_at p c within low high)
 
         by_kind : ((asked ≡ 1) × ((entry_of (hall_at p) number).kind ≡ 4)) ⊎ ((asked ≡ 2) × ((entry_of (hall_at p) number).kind ≡ 5)) → OpenLine p c r asked
             → Counts (seat_of (hall_at p) c).line (seat_of (hall_at (p + 1)) c).line q
@@ -319,7 +330,7 @@ module _ {V : Type 0} (kind : Kind V) (v : V) (start : World) (lawful : Lawful k
 
     -- the answer is counted
     counts : Counts (seat_of (hall_at p) c).line (seat_of (hall_at (p + 1)) c).line q
-    counts = counts_by (by_kind (answer_kinds answers) (open_line p c r asked le o))
+    counts = counts_by (by_kind (answer_kinds answers) (line))
       where
         by_kind : ((asked ≡ 1) × ((entry_of (hall_at p) number).kind ≡ 4)) ⊎ ((asked ≡ 2) × ((entry_of (hall_at p) number).kind ≡ 5)) → OpenLine p c r asked → Member
         by_kind (inl a) (writes k stage r) = absurd (omega (arith, a.0, k))
@@ -334,18 +345,26 @@ module _ {V : Type 0} (kind : Kind V) (v : V) (start : World) (lawful : Lawful k
             ((here.answers number posted).ack {q = q} {e = (entry_of (hall_at p) number).epoch} {c = c} {r = (seat_of (hall_at p) c).line.round} (record { sender = sender; kind = a.1; addressee = addressee; round = in_round; epoch = refl }) honest)
 
   -- who was handed over is counted in the round that is still open
-  handed_counted : (i c r asked q : ℕ) → i ≤ run.calls → Open run i c r asked → Handed run i q c r → member start.hall.marked q ≡ false → member (seat_of (hall_at i) c).line.counted.0 q ≡ true
+  handed_counted : (i c r asked q : ℕ) → i ≤ run.calls → Open run i c r asked → Handed run i q c r asked → member start.hall.marked q ≡ false → member (seat_of (hall_at i) c).line.counted.0 q ≡ true
   handed_counted i c r asked q le o h unmarked =
       let p = h.position in
       let within : p < run.calls = omega (arith, h.earlier) in
       let seat = open_seat i c r asked le o in
-      let one = counts q c r p within h.number h.asked h.call h.posted h.sender h.addressee h.round h.open_then h.answers h.room unmarked in
+      let asked_for : r ≤ (seat_of (hall_at p) c).line.round = has_asked q c r p within h.number asked h.call h.posted h.sender h.addressee h.round seat.low seat.high h.answers h.room unmarked in
       let first = turn_onward (turn_at p c within seat.low seat.high) in
       let rest = goes_on c seat.low seat.high (p + 1) i (omega (arith, h.earlier)) le in
-      let same : (seat_of (hall_at i) c).line.round ≡ (seat_of (hall_at p) c).line.round = sym (line_round i c r asked le o) ∙ line_round p c r h.asked (omega arith) h.open_then in
+      let whole = goes_on c seat.low seat.high p i (omega (arith, h.earlier)) le in
+      let same : (seat_of (hall_at i) c).line.round ≡ (seat_of (hall_at p) c).line.round = omega (arith, line_round i c r asked le o, asked_for, whole.rounds) in
       let middle : (seat_of (hall_at i) c).line.round ≡ (seat_of (hall_at (p + 1)) c).line.round = omega (arith, same, first.rounds, rest.rounds) in
+      let one = counts q c r p within h.number asked h.call h.posted h.sender h.addressee h.round seat.low seat.high h.answers h.room unmarked
+          (line_before (sym (whole.stage same seat.opens)) same (open_line i c r asked le o)) in
       (rest.counted middle seat.opens).each q
       (one.here (omega (arith, same, middle)) (ap is_open (sym (rest.stage middle seat.opens)) ∙ seat.opens))
+    where
+      line_before : {p : ℕ} → (seat_of (hall_at p) c).line.stage ≡ (seat_of (hall_at i) c).line.stage → (seat_of (hall_at i) c).line.round ≡ (seat_of (hall_at p) c).line.round → OpenLine i c r asked → OpenLine p c r asked
+      line_before stage round (reads k s r) = reads k (stage ∙ s) (r ∙ round)
+      line_before stage round (writes k (inl s) r) = writes k (inl (stage ∙ s)) (r ∙ round)
+      line_before stage round (writes k (inr s) r) = writes k (inr (stage ∙ s)) (r ∙ round)
 
   pub responsive : Responsive run
   responsive i c r asked le enough o =

@@ -1,6 +1,6 @@
 -- One order: all finished operations of a run, with some unfinished writes, stand in one list that keeps real time,
 -- and each read gives what the last write before it wrote.
-use Rattle.std.specs.Prelude.{◌≡◌, ℕ, ◌+◌, ◌<◌, ◌⊎◌, List, [], ◌∷◌, ◌++◌, Some, None, Option}
+use Rattle.std.specs.Prelude.{◌≡◌, ℕ, ◌+◌, ◌<◌, ◌≤◌, ◌⊎◌, List, [], ◌∷◌, ◌++◌, Some, None, Option}
 use Rattle.orders.specs.Order.{◌∈◌, Distinct}
 use Rattle.model.specs.Halls.{World, Kind}
 use Rattle.model.specs.Answers.{Answer, done, slip, pair, refused}
@@ -45,6 +45,14 @@ module _ {V : Type 0} {kind : Kind V} {start : World} (run : Run kind start) whe
     pub answers : collects kind (run.world (p + 1)) client place ≡ Some v
     pub first : (q : ℕ) → q < p → collects kind (run.world (q + 1)) client place ≡ None
 
+  -- before position i collect would answer the slip of the operation o with this value
+  pub record Gives (o i : ℕ) (v : V) : Type 0 where
+    pub client : ℕ
+    pub place : ℕ
+    pub operation : Operation o client place
+    pub within : i ≤ run.calls
+    pub answers : collects kind (run.world i) client place ≡ Some v
+
   -- it has ended, at some position and with some value
   pub record Finished (o : ℕ) : Type 0 where
     pub position : ℕ
@@ -79,7 +87,7 @@ module _ {V : Type 0} {kind : Kind V} {start : World} (run : Run kind start) whe
     -- what ended before another began stands before it
     pub time : (front back : List ℕ) (o p j : ℕ) (v : V) → l ≡ front ++ (j ∷ back) → Ended o p v → p < j → o ∈ front
     -- a read gives the value of the last write before it, or the opening value
-    pub reads : (front back : List ℕ) (j p : ℕ) (v : V) → l ≡ front ++ (j ∷ back) → value_written (run.call j) ≡ None → Ended j p v → v ≡ held_after opening front
+    pub reads : (front back : List ℕ) (j i : ℕ) (v : V) → l ≡ front ++ (j ∷ back) → value_written (run.call j) ≡ None → Gives j i v → v ≡ held_after opening front
 
   -- there is such an order
   pub record Linearizable (opening : V) : Type 0 where
