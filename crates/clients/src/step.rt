@@ -1,6 +1,6 @@
 // The begin and the step of a client.
 ghost use Rattle.std.specs.Prelude.{◌≡◌};
-ghost use Rattle.clients.specs.Steps.{begun, client_stepped, genuine_stepped};
+ghost use Rattle.clients.specs.Steps.{begun, ClientStep};
 
 use crate::fault::ClientFault;
 use crate::line::{Line, Stage};
@@ -18,7 +18,7 @@ pub fn begin<L: Sealer>(
     word: Option<Word>,
     sealer: &L,
 ) -> Result<Entry, ClientFault>
-    ensures { record { answer = result; line = line.new } ≡ begun client line.old word (L.Sealer.desk sealer.now).seals }
+    ensures { record { answer = result; line = line.new } ≡ begun client line.old word (L.desk sealer.now).seals }
 {
     if !line.stage.is_idle() {
         return Err(ClientFault::Busy(client));
@@ -43,8 +43,10 @@ pub fn client_step<K: Kind, L: Sealer>(
     entry: &Entry,
     sealer: &mut L,
 ) -> Result<Option<Entry>, ClientFault>
-    ensures change { record { answer = result; line = line.new; seals = (L.Sealer.desk sealer.new).seals } ≡ client_stepped rules.now K.Kind.NUMBER (L.Sealer.desk sealer.old) client line.old entry.now }
-    ensures grows { (L.Sealer.desk sealer.new).genuine ≡ genuine_stepped rules.now K.Kind.NUMBER (L.Sealer.desk sealer.old) client line.old entry.now }
+    ensures {
+        ClientStep rules.now K.Kind.NUMBER client entry.now line.old (L.desk sealer.old) result line.new
+            (L.desk sealer.new)
+    }
 {
     let judged = rules.judge::<K, L>(entry, sealer);
     match decide(rules, client, line, &judged) {

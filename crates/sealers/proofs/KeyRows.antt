@@ -9,9 +9,9 @@ use Rattle.wire.specs.declared.pair.Seal.{Seal}
 use Rattle.wire.specs.declared.text.Text.{Text}
 use Rattle.sealers.specs.declared.keyed.Keyed.{Keyed}
 use Rattle.sealers.specs.declared.keyed.KeyRow.{KeyRow}
-use Rattle.sealers.specs.Keys.{key_place, row_at, key_row, key_seal, spent_row, keyed_seals, keyed_genuine, keyed_given, keyed_desk}
-use Rattle.sealers.specs.Sealing.{spent, sealed, genuine_with}
-use Rattle.sealers.proofs.Sealing.{still_with, exactly}
+use Rattle.sealers.specs.Keys.{key_place, row_at, key_row, key_seal, spent_row, keyed_seals, keyed_genuine, keyed_desk}
+use Rattle.sealers.specs.Sealing.{Seals, spent, sealed}
+use Rattle.sealers.proofs.Sealing.{of_text, still_with, exactly}
 
 nth_set_same : (rows : List KeyRow) (i : ℕ) (row new : KeyRow) → slice_get rows i ≡ Some row → slice_get (set rows i new) i ≡ Some new
 nth_set_same [] i row new e = absurd (let z : ◌≡◌ {A = ℕ} 0 1 = cc in omega arith)
@@ -76,22 +76,21 @@ module _ {k k' : Keyed} {party : ℕ} {row : KeyRow} (w : Spent k k' party row) 
       ∙ ap (λ o. unwrap_or (option_map (λ r. eqb (key_seal r t).0 s.0) o) false) row_after
       ∙ eq-eqb (key_seal row t).0 s.0 (ap (λ x. x.0) (sym e))
 
-  given_is : (t : Text) → t.party ≡ party → keyed_given k t ≡ key_seal row t
-  given_is t at = ap (λ p. unwrap_or (option_map (λ r. key_seal r t) (key_row k p)) (record { 0 = 0 })) at ∙ ap (λ o. unwrap_or (option_map (λ r. key_seal r t) o) (record { 0 = 0 })) row_before
-
   -- the seal that is given was genuine before: a key makes the same seal of a text always
-  pub genuine_now : (t : Text) → t.party ≡ party → keyed_genuine k' ≡ genuine_with (keyed_desk k) t
-  genuine_now t at = exactly (keyed_desk k) t (keyed_genuine k') (λ u s. refl)
-      (λ u s g. still_with (keyed_desk k) t u s (sym (same_genuine u s) ∙ g))
-      (λ u s g. same_genuine u s ∙ g)
-      (given_genuine t (keyed_given k t) at (given_is t at))
+  pub sealed_now : (t : Text) (s : Seal) → t.party ≡ party → s ≡ key_seal row t → Seals (keyed_desk k) (Some t) s (keyed_desk k')
+  sealed_now t s at e = record {
+    allowed = of_text (λ u. keyed_genuine k u s ≡ true) (sym (same_genuine t s) ∙ given_genuine t s at e);
+    genuine = exactly (keyed_desk k) t s (keyed_genuine k') (λ u s. refl)
+        (λ u r g. still_with (keyed_desk k) t s u r (sym (same_genuine u r) ∙ g))
+        (λ u r g. same_genuine u r ∙ g)
+        (given_genuine t s at e);
+  }
 
-  pub change_if : (t : Text) (s : Seal) → t.party ≡ party → s ≡ key_seal row t → (row.left ≡ 0 → ⊥) → record { answer = Ok s; seals = keyed_seals k' } ≡ sealed (keyed_seals k) (keyed_given k t) t
-  change_if t s at e some =
+  pub change_if : (t : Text) (s : Seal) → t.party ≡ party → (row.left ≡ 0 → ⊥) → record { answer = Ok s; seals = keyed_seals k' } ≡ sealed (keyed_seals k) s t
+  change_if t s at some =
       let left : keyed_seals k party ≡ row.left = ap (λ o. unwrap_or (option_map (λ r. r.left) o) 0) row_before in
-      let given : keyed_given k t ≡ s = given_is t at ∙ sym e in
       let more : eqb (keyed_seals k t.party) 0 ≡ false = ne_eqb (keyed_seals k t.party) 0 (λ z. some (sym left ∙ sym (ap (keyed_seals k) at) ∙ z)) in
-      (λ i. record { answer = Ok (sym given i); seals = λ q. (seals_fall q ∙ ap (λ p. spent (keyed_seals k) p q) (sym at)) i })
+      (λ i. record { answer = Ok s; seals = λ q. (seals_fall q ∙ ap (λ p. spent (keyed_seals k) p q) (sym at)) i })
       ∙ sym (cond-false (eqb (keyed_seals k t.party) 0) _ _ more)
 
 -- the row that was lent is the party's row

@@ -1,5 +1,5 @@
 -- A row of the book is written: one seal fewer for that party, the new seal genuine, the others still, and no more. Assumes nothing.
-use Rattle.std.proofs.Common.{◌≡◌, ℕ, ◌+◌, ◌-◌, ◌*◌, ◌<◌, ◌≤◌, min, true, false, ◌&&◌, eqb, ltb, leb, length, replicate, get_or, set, is_some, Ok, sym, refl, ap, ◌∙◌, subst, ⊎_elim, mul_comm, mul-le-mul_left, mul-one, mul-add, arith, length-set, get_or-set_other, get_or-set_same}
+use Rattle.std.proofs.Common.{◌≡◌, ℕ, ◌+◌, ◌-◌, ◌*◌, ◌<◌, ◌≤◌, min, true, false, ◌&&◌, eqb, ltb, leb, length, replicate, get_or, set, is_some, Some, Ok, sym, refl, ap, ◌∙◌, subst, ⊎_elim, mul_comm, mul-le-mul_left, mul-one, mul-add, arith, length-set, get_or-set_other, get_or-set_same}
 use Rattle.std.proofs.lemmas.Bool.{cases_eq, cases_lt, cases_order, cases_Bool, both_ways, cond-true, cond-false, eq-eqb, ne_eqb, le-leb, lt-ltb, leb-true, ltb-true, and_parts, and_from}
 use Rattle.std.proofs.lemmas.Bool.Decides.{nat_tests}
 use Rattle.std.proofs.lemmas.List.{get_or-replicate}
@@ -7,9 +7,9 @@ use Rattle.wire.specs.declared.pair.Seal.{Seal}
 use Rattle.wire.specs.declared.text.Text.{Text}
 use Rattle.wire.specs.Parties.{party_of}
 use Rattle.sealers.specs.declared.book.Book.{Book}
-use Rattle.sealers.specs.Books.{no_text, next_row, end_row, book_seals, book_genuine, book_given, book_desk}
-use Rattle.sealers.specs.Sealing.{same_text, spent, sealed, genuine_with}
-use Rattle.sealers.proofs.Sealing.{same_itself, text_is, still_with, given_with, exactly}
+use Rattle.sealers.specs.Books.{no_text, next_row, end_row, book_seals, book_genuine, book_allowed, book_desk}
+use Rattle.sealers.specs.Sealing.{Seals, same_text, spent, sealed, genuine_with}
+use Rattle.sealers.proofs.Sealing.{same_itself, text_is, of_text, still_with, given_with, exactly}
 
 -- b' is b with the text in its party's next row
 pub record Written (b b' : Book) (text : Text) : Type 0 where
@@ -163,12 +163,17 @@ module _ {b b' : Book} {text : Text} (w : Written b b' text) where
       (λ ne. let same : next_row b' q ≡ next_row b q = rw (w.share, used_elsewhere q ne) refl in omega (arith, used, same))
       (cases_eq q text.party)
 
-  old_or_new : (t : Text) (s : Seal) → book_genuine b' t s ≡ true → genuine_with (book_desk b) text t s ≡ true
+  -- the seal that is given
+  next_seal : Seal
+  next_seal = record { 0 = next_row b text.party }
+
+  old_or_new : (t : Text) (s : Seal) → book_genuine b' t s ≡ true → genuine_with (book_desk b) text next_seal t s ≡ true
+  unfolding next_seal
   old_or_new t s g =
       let now = genuine_parts b' t s g in
       ⊎_elim
-      (λ here. given_with (book_desk b) text t s (sym (text_is text t (ap (λ x. same_text x t) (sym (ap (λ k. get_or b'.rows.now k no_text) here ∙ written)) ∙ now.holds))) here)
-      (λ elsewhere. still_with (book_desk b) text t s (genuine_from b t s (record {
+      (λ here. given_with (book_desk b) text next_seal t s (sym (text_is text t (ap (λ x. same_text x t) (sym (ap (λ k. get_or b'.rows.now k no_text) here ∙ written)) ∙ now.holds))) here)
+      (λ elsewhere. still_with (book_desk b) text next_seal t s (genuine_from b t s (record {
         party = now.party;
         low = rw (sym w.share) now.low;
         used = used_before t.party s.0 now.used elsewhere;
@@ -177,8 +182,13 @@ module _ {b b' : Book} {text : Text} (w : Written b b' text) where
       })))
       (cases_eq s.0 (next_row b text.party))
 
-  pub genuine_now : book_genuine b' ≡ genuine_with (book_desk b) text
-  genuine_now = exactly (book_desk b) text (book_genuine b') (λ t s. refl) old_or_new still_genuine new_genuine
+  -- the book after it has given the text the next row of its party
+  pub sealed_now : (row : ℕ) → row ≡ next_row b text.party → Seals (book_desk b) (Some text) (record { 0 = row }) (book_desk b')
+  unfolding next_seal
+  sealed_now row at = subst (λ r. Seals (book_desk b) (Some text) (record { 0 = r }) (book_desk b')) (sym at) (record {
+    allowed = of_text (λ t. book_allowed b t (record { 0 = next_row b text.party }) ≡ true) (eq-eqb (next_row b text.party) (next_row b text.party) refl);
+    genuine = exactly (book_desk b) text next_seal (book_genuine b') (λ t s. refl) old_or_new still_genuine new_genuine;
+  })
 
 -- what sealing has to show: b' has the text in this row, and the row is the party's next
 pub written_if : (b b' : Book) (text : Text) (row : ℕ) → row ≡ next_row b text.party → (book_seals b text.party ≡ 0 → ⊥) → length b.used ≡ 164 → b'.rows.now ≡ set b.rows.now row text → b'.share ≡ b.share → b'.used ≡ set b.used text.party (get_or b.used text.party 0 + 1) → Written b b' text
@@ -187,7 +197,7 @@ written_if b b' text row at some long rows share used =
     let small = party_below text.party has.0 in
     record { party = has.0; free = has.1; long = omega arith; rows = rows ∙ ap (λ i. set b.rows.now i text) at; share = share; used = used }
 
-pub change_if : {b b' : Book} {text : Text} (row : ℕ) → row ≡ next_row b text.party → (book_seals b text.party ≡ 0 → ⊥) → Written b b' text → record { answer = Ok (record { 0 = row }); seals = book_seals b' } ≡ sealed (book_seals b) (book_given b text) text
-change_if {b} {b'} {text} row at some w =
-    (λ i. record { answer = Ok (record { 0 = at i }); seals = λ q. seals_fall w q i })
+pub change_if : {b b' : Book} {text : Text} (row : ℕ) → (book_seals b text.party ≡ 0 → ⊥) → Written b b' text → record { answer = Ok (record { 0 = row }); seals = book_seals b' } ≡ sealed (book_seals b) (record { 0 = row }) text
+change_if {b} {b'} {text} row some w =
+    (λ i. record { answer = Ok (record { 0 = row }); seals = λ q. seals_fall w q i })
     ∙ sym (cond-false (eqb (book_seals b text.party) 0) _ _ (ne_eqb (book_seals b text.party) 0 some))

@@ -28,11 +28,12 @@ book_genuine b t s =
     is_some (party_of t.party) && (nat_le (t.party * b.share) s.0
     && (nat_lt s.0 (min (next_row b t.party) (length b.rows.now)) && same_text (slice_index_or b.rows.now s.0 no_text) t))
 
-abbrev pub book_given : Book → Text → Seal
-book_given b t = record { 0 = next_row b t.party }
+-- a text gets the next row of its party, and no other
+abbrev pub book_allowed : Book → Text → Seal → Bool
+book_allowed b t s = s.0 == next_row b t.party
 
 abbrev pub book_desk : Book → Desk
-book_desk b = record { genuine = book_genuine b; seals = book_seals b; given = book_given b; beside = none_beside }
+book_desk b = record { genuine = book_genuine b; seals = book_seals b; allowed = book_allowed b; beside = none_beside }
 
 -- a share of 1 to 256 rows, and as many rows in all as 164 parties have
 abbrev pub book_fits : ℕ → ℕ → Bool

@@ -38,11 +38,12 @@ keyed_seals k p = unwrap_or (option_map (λ row. row.left) (key_row k p)) 0
 abbrev pub keyed_genuine : Keyed → Text → Seal → Bool
 keyed_genuine k t s = unwrap_or (option_map (λ row. nat_eq (key_seal row t).0 s.0) (key_row k t.party)) false
 
-abbrev pub keyed_given : Keyed → Text → Seal
-keyed_given k t = unwrap_or (option_map (λ row. key_seal row t) (key_row k t.party)) (record { 0 = 0 })
+-- a text gets the seal that is genuine for it
+abbrev pub keyed_allowed : Keyed → Text → Seal → Bool
+keyed_allowed k t s = keyed_genuine k t s
 
 abbrev pub keyed_desk : Keyed → Desk
-keyed_desk k = record { genuine = keyed_genuine k; seals = keyed_seals k; given = keyed_given k; beside = none_beside }
+keyed_desk k = record { genuine = keyed_genuine k; seals = keyed_seals k; allowed = keyed_allowed k; beside = none_beside }
 
 -- 97 rows, none with more than 1,000,000 seals
 abbrev pub AllWithin : List KeyRow → Type 0

@@ -1,5 +1,5 @@
 -- What it is to seal a text: who may, what falls, and what is genuine then.
-use Rattle.std.specs.Prelude.{ℕ, ◌-◌, Bool, true, false, cond, ◌&&◌, ◌||◌, Ok, Err, Result, ◌==◌}
+use Rattle.std.specs.Prelude.{◌≡◌, ℕ, ◌-◌, Bool, true, false, cond, ◌&&◌, ◌||◌, Some, None, Ok, Err, Option, Result, ◌==◌}
 use Rattle.wire.specs.declared.pair.Seal.{Seal}
 use Rattle.wire.specs.declared.text.Text.{Text}
 use Rattle.sealers.specs.declared.fault.SealerFault.{SealerFault}
@@ -14,8 +14,8 @@ pub record Desk : Type 0 where
   pub genuine : Text → Seal → Bool
   -- how many seals the party of each number has left
   pub seals : ℕ → ℕ
-  -- the seal that a text would get: the rules leave it open, and say only that it is genuine once it is given
-  pub given : Text → Seal
+  -- which seals a text may get: the rules leave it open, and say only that the one that is given is genuine then
+  pub allowed : Text → Seal → Bool
   -- which seals become genuine beside it once a text is sealed: open too, and none where the sealer lets no other in
   pub beside : Text → Text → Seal → Bool
 
@@ -40,13 +40,28 @@ abbrev pub none_beside : Text → Text → Seal → Bool
 none_beside text t s = false
 
 -- what is genuine once a text is sealed: all that was so before, the seal that it got, and what the sealer makes so beside it
-abbrev pub genuine_with : Desk → Text → Text → Seal → Bool
-genuine_with desk text t s = desk.genuine t s || ((same_text t text && s.0 == (desk.given text).0) || desk.beside text t s)
+abbrev pub genuine_with : Desk → Text → Seal → Text → Seal → Bool
+genuine_with desk text given t s = desk.genuine t s || ((same_text t text && s.0 == given.0) || desk.beside text t s)
 
--- a refusal alters nothing
-abbrev pub genuine_after : Desk → Text → Result Seal SealerFault → Text → Seal → Bool
-genuine_after desk text (Ok seal) = genuine_with desk text
-genuine_after desk text (Err fault) = desk.genuine
+-- which seals are genuine once this text is sealed; where none is, nothing changes
+abbrev pub genuine_then : Desk → Option Text → Seal → Text → Seal → Bool
+genuine_then desk None given = desk.genuine
+genuine_then desk (Some text) given = genuine_with desk text given
+
+-- what becomes of a sealer: this text was sealed and got this seal, or none was
+pub record Seals (before : Desk) (text : Option Text) (given : Seal) (after : Desk) : Type 0 where
+  pub allowed : (t : Text) → text ≡ Some t → before.allowed t given ≡ true
+  pub genuine : after.genuine ≡ genuine_then before text given
+
+-- the seal that was given; where none was, any
+abbrev pub seal_in : Result Seal SealerFault → Seal
+seal_in (Ok seal) = seal
+seal_in (Err fault) = record { 0 = 0 }
+
+-- the text that was sealed, if it was
+abbrev pub sealed_text : Text → Result Seal SealerFault → Option Text
+sealed_text text (Ok seal) = Some text
+sealed_text text (Err fault) = None
 
 -- what comes of sealing a text and checking the seal, for a party that has this many seals left
 abbrev pub checked : ℕ → ℕ → Result Bool SealerFault

@@ -1,6 +1,6 @@
 // The source and its state.
 ghost use Rattle.std.specs.Prelude.{◌≡◌};
-ghost use Rattle.source.specs.Issued.{issued, genuine_issued};
+ghost use Rattle.source.specs.Issued.{Issues};
 
 use crate::fault::SourceFault;
 use sealers::Sealer;
@@ -26,8 +26,7 @@ impl Source {
         set: ReplicaSet,
         sealer: &mut L,
     ) -> Result<Configuration, SourceFault>
-        ensures change { record { answer = result; source = self.new; seals = (L.Sealer.desk sealer.new).seals } ≡ issued self.old set (L.Sealer.desk sealer.old) }
-        ensures grows { (L.Sealer.desk sealer.new).genuine ≡ genuine_issued self.old set (L.Sealer.desk sealer.old) }
+        ensures { Issues set self.old (L.desk sealer.old) result self.new (L.desk sealer.new) }
     {
         let epoch = self.newest.checked_add(1).ok_or(SourceFault::UsedUp)?;
         let unsealed = Configuration {

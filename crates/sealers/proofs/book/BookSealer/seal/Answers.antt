@@ -3,7 +3,7 @@ use Rattle.std.proofs.Common.{◌≡◌, ◌+◌, ◌<◌, ◌≤◌, length, ge
 use borrow.Rule.Slice.Mut.{set_vals}
 use Rattle.sealers.specs.declared.book.Book.{Book}
 use Rattle.sealers.specs.Books.{book_seals}
-use Rattle.sealers.proofs.Rows.{has_seal, party_below, written_if, change_if, genuine_now}
+use Rattle.sealers.proofs.Rows.{has_seal, party_below, written_if, change_if, sealed_now}
 use Rattle.sealers.proofs.Shares.{one_more_used}
 use Rattle.sealers.proofs.book.BookSealer.seal.Goals as goal
 
@@ -22,6 +22,6 @@ returns c =
     let b' : Book = record { rows = set_vals (set b.rows.now row text) b.rows; share = b.share; used = set b.used c.from.result (get_or b.used c.from.result 0 + 1); sized = length-set _ _ _ ∙ b.sized; within = one_more_used b.used b.share c.from.result (get_or b.used c.from.result 0 + 1) b.within there more } in
     let w = written_if b b' text row at some long refl refl (ap (λ k. set b.used k (get_or b.used k 0 + 1)) c.from.ensures) in
     record {
-      change = change_if {b' = b'} row at some w;
-      grows = genuine_now {b' = b'} w;
+      change = change_if {b' = b'} row some w;
+      grows = sealed_now {b' = b'} w row at;
     }

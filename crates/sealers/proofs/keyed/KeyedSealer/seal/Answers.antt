@@ -3,7 +3,7 @@ use Rattle.std.proofs.Common.{◌≡◌, Some, set, vec_items, sym, refl, ap, �
 use Rattle.std.proofs.lemmas.Option.{slice_get_within}
 use Rattle.sealers.specs.Keys.{key_place, key_row, row_at}
 use Rattle.sealers.specs.Lending.{with_row}
-use Rattle.sealers.proofs.KeyRows.{spent_if, change_if, genuine_now}
+use Rattle.sealers.proofs.KeyRows.{spent_if, change_if, sealed_now}
 use Rattle.sealers.proofs.keyed.KeyedSealer.seal.Goals as goal
 
 pub row-requires : goal.row-requires
@@ -23,6 +23,6 @@ returns c =
     let has : key_row k text.party ≡ Some row = sym c.row_of.ensures ∙ c.in_ok-row.ensures.ok_part in
     let w = spent_if k (with_row k place c.spend.new.self) text.party place row c.row.result.now there has k.rows.ok.0 c.row.ensures.value (ap (set (vec_items k.rows) place) c.spend.ensures) in
     record {
-      change = change_if w text c.seal_of.result refl c.seal_of.ensures c.if-row-eq0.false;
-      grows = genuine_now w text refl;
+      change = change_if w text c.seal_of.result refl c.if-row-eq0.false;
+      grows = sealed_now w text c.seal_of.result refl c.seal_of.ensures;
     }
