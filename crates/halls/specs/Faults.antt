@@ -1,4 +1,7 @@
 -- As which refusal each fault of a hall stands: number, layer and place.
+use Rattle.std.specs.Prelude.{◌≡◌, ℕ, Bool}
+use Rattle.refusals.specs.Checks.{Check, check_by}
+use Rattle.refusals.specs.declared.Layer.{Layer}
 use Rattle.refusals.specs.declared.Refusal.{Refusal}
 use Rattle.refusals.specs.declared.Layer.TheVariants.{Hall, Client as TheClient}
 use Rattle.refusals.specs.Places.{moved}
@@ -33,3 +36,8 @@ hall_refusal (Source fault) = source_refusal fault
 hall_refusal (Store fault) = store_refusal fault
 hall_refusal (Kind fault) = kind_refusal fault
 hall_refusal (Step place fault) = moved (step_refusal fault) place
+
+-- a test of a call of the hall, with number, layer and place of its refusal
+abbrev pub check : Bool → (number : ℕ) (layer : Layer) (place : ℕ) (fault : HallFault)
+    → hall_refusal fault ≡ record { number = number; layer = layer; place = place } → Check HallFault
+check = check_by hall_refusal

@@ -4,6 +4,7 @@ use Rattle.std.proofs.Common.{◌≡◌, ℕ, Bool, true, false, not, ◌&&◌, 
 use borrow.Author.Tests.{clash}
 use Rattle.wire.specs.declared.entry.Entry.{Entry}
 use Rattle.wire.specs.declared.pair.Seal.{Seal}
+use Rattle.wire.specs.declared.text.Text.{Text}
 use Rattle.wire.specs.Texts.{pair_text}
 use Rattle.wire.specs.Parties.{Client}
 use Rattle.rules.specs.declared.rules.Rules.{Rules}
@@ -17,7 +18,7 @@ use Rattle.clients.specs.Steps.{acted, signing}
 use Rattle.clients.specs.Turns.{Verdict, decided}
 use Rattle.halls.specs.declared.operation.Operation.{Operation}
 use Rattle.halls.specs.declared.seat.Seat.{Seat}
-use Rattle.model.specs.Halls.{World, seat_of, operation_of, desk_of}
+use Rattle.model.specs.Halls.{World, seat_of, operation_of}
 use Rattle.model.specs.Delivering.{client_step_of, is_over, is_stamping, has_ended}
 use Rattle.model.proofs.Invariants.{SeatRule}
 use Rattle.model.proofs.Stages.{in_stage}
@@ -30,10 +31,10 @@ pub data Turned (rules : Rules) (client : Client) (before : Line) (e : Entry) (g
   moved_to : (turn : Turn) → ClientMove rules client before e genuine turn → turn ≡ Moves line post → Turned rules client before e genuine line post
   stamped_to : (turn : Turn) (next : Line) (seal : Seal) → ClientMove rules client before e genuine turn → turn ≡ Stamps next → line ≡ sealed_with next seal → Turned rules client before e genuine line post
 
-pub turned : (w : World) (kind : ℕ) (client : Client) (e : Entry) (line : Line) (post : Option Entry) (seals : ℕ → ℕ)
-    → client_step_of w kind client e ≡ record { answer = Ok post; line = line; seals = seals }
+pub turned : (w : World) (given : Seal) (kind : ℕ) (client : Client) (e : Entry) (line : Line) (post : Option Entry) (seals : ℕ → ℕ) (text : Option Text)
+    → client_step_of w given kind client e ≡ record { answer = Ok post; line = line; seals = seals; sealed = text }
     → Turned w.hall.rules client (seat_of w.hall client.number).line e (genuine_entry w.hall.rules kind w.genuine e) line post
-turned w kind client e line post seals stepped = by_verdict (decided w.hall.rules client before e genuine) refl stepped
+turned w given kind client e line post seals text step = by_verdict (decided w.hall.rules client before e genuine) refl step
   where
     before : Line
     before = (seat_of w.hall client.number).line
@@ -42,15 +43,15 @@ turned w kind client e line post seals stepped = by_verdict (decided w.hall.rule
     genuine = genuine_entry w.hall.rules kind w.genuine e
 
     by_verdict : (v : Verdict) → decided w.hall.rules client (seat_of w.hall client.number).line e (genuine_entry w.hall.rules kind w.genuine e) ≡ v
-        → acted v kind (desk_of w) client (seat_of w.hall client.number).line ≡ record { answer = Ok post; line = line; seals = seals }
+        → acted v kind w.hall.seals given client (seat_of w.hall client.number).line ≡ record { answer = Ok post; line = line; seals = seals; sealed = text }
         → Turned w.hall.rules client (seat_of w.hall client.number).line e (genuine_entry w.hall.rules kind w.genuine e) line post
     by_verdict (Err why) is a = not_ok (ap (λ s. s.answer) a)
     by_verdict (Ok (Moves next said)) is a =
         moved_to (Moves next said) (client_view _ client _ e _ (Moves next said) is) (ap (λ l. Moves l said) (ap (λ s. s.line) a) ∙ ap (λ p. Moves line p) (ok_same (ap (λ s. s.answer) a)))
     by_verdict (Ok (Stamps next)) is a =
-        way_in (λ s. signing s client (seat_of w.hall client.number).line next) (eqb (w.hall.seals (pair_text kind next.highest).party) 0) a
+        way_in (λ s. signing s (pair_text kind next.highest) client (seat_of w.hall client.number).line next) (eqb (w.hall.seals (pair_text kind next.highest).party) 0) a
         (λ t q. not_ok (ap (λ s. s.answer) q))
-        (λ t q. stamped_to (Stamps next) next (w.left_open.given (pair_text kind next.highest)) (client_view _ client _ e _ (Stamps next) is) refl (sym (ap (λ s. s.line) q)))
+        (λ t q. stamped_to (Stamps next) next given (client_view _ client _ e _ (Stamps next) is) refl (sym (ap (λ s. s.line) q)))
 
 moves_line : {a c : Line} {b d : Option Entry} → Moves a b ≡ Moves c d → a ≡ c
 moves_line p = cc

@@ -4,6 +4,7 @@ use Rattle.std.proofs.Common.{◌≡◌, ℕ, ◌+◌, ◌-◌, ◌<◌, ◌≤�
 use Rattle.kinds.specs.declared.word.Word.{Word}
 use Rattle.wire.specs.declared.entry.Entry.{Entry}
 use Rattle.wire.specs.declared.pair.Pair.{Pair}
+use Rattle.wire.specs.declared.pair.Seal.{Seal}
 use Rattle.wire.specs.declared.text.Text.{Text}
 use Rattle.wire.specs.Parties.{Client}
 use Rattle.clients.specs.declared.line.Line.{Line}
@@ -208,8 +209,8 @@ module _ {V : Type 0} (kind : Kind V) (sealed : List Text) (w : World) (holds : 
   same_event : {other : Call V} (h : Hall) → call ≡ other → begins_slip other a ≡ false → h ≡ h' → SameLog w.hall h → Event kind w.hall h' call a
   same_event h is none e same = nothing (ap (λ c. begins_slip c a) is ∙ none) (subst (λ z. SameLog w.hall z) e same)
 
-  event_by : Effect kind w call a h' → Event kind w.hall h' call a
-  event_by (stands f is e) = same_event w.hall refl (ap (begins_slip call) is ∙ refused_begins_none call f) e (same_log w.hall)
+  event_by : {given : Seal} {s : Option Text} → Effect kind w given call a h' s → Event kind w.hall h' call a
+  event_by (stands f is e none) = same_event w.hall refl (ap (begins_slip call) is ∙ refused_begins_none call f) e (same_log w.hall)
   event_by (issues set is allowed p) = same_event _ is refl (hall_is p) (kept_log _ _ refl refl refl refl)
   event_by (starts client word is allowed p) = begins client.number word is (answer_is p)
       (subst (λ h. BegunLog w.hall h client.number word) (hall_is p)
@@ -224,19 +225,19 @@ module _ {V : Type 0} (kind : Kind V) (sealed : List Text) (w : World) (holds : 
   event_by (client_steps number client is seated room fits line post seals step answer e) =
       by_turn (log_turned kind.number sealed w holds client seated.low seated.high line seals post
       (line_change client (seat_of w.hall client.number) (holds.seats client.number seated.low seated.high)
-      (turned w kind.number client (entry_of w.hall number) line post seals step)))
+      (turned w _ kind.number client (entry_of w.hall number) line post seals _ step)))
     where
       by_turn : LogTurn kind.number sealed w holds client seated.low seated.high line seals (client_moves w.hall client.number (seat_of w.hall client.number) line post seals) → Event kind w.hall h' call a
       by_turn (stays same) = same_event _ is refl e same
       by_turn (closes closed) = ends client.number (seat_of w.hall client.number).operation seated.low seated.high (ap (λ c. begins_slip c a) is)
           (subst (λ h. EndedLog w.hall h client.number (seat_of w.hall client.number).operation) e closed)
-  event_by (replica_steps number party r is inside room fits place saves post step answer e) = same_event _ is refl (sym (posting_is _ post) ∙ e) (kept_log _ _ refl refl refl refl)
-  event_by (calls_off c k is its unended answer e) = same_event _ is refl e (kept_log _ _ refl refl refl refl)
-  event_by (collects_it c k u is its over answer e) = same_event _ is refl e (kept_log _ _ refl refl refl refl)
-  event_by (lodges c k is its answer e) = same_event _ is refl e (kept_log _ _ refl refl refl refl)
-  event_by (redeems c k is seated answer e) = same_event _ is refl e (kept_log _ _ refl refl refl refl)
-  event_by (meddles party x r is inside marked room answer e) = same_event _ is refl e (kept_log _ _ refl refl refl refl)
+  event_by (replica_steps number party r is inside room fits place saves post step answer e none) = same_event _ is refl (sym (posting_is _ post) ∙ e) (kept_log _ _ refl refl refl refl)
+  event_by (calls_off c k is its unended answer e none) = same_event _ is refl e (kept_log _ _ refl refl refl refl)
+  event_by (collects_it c k u is its over answer e none) = same_event _ is refl e (kept_log _ _ refl refl refl refl)
+  event_by (lodges c k is its answer e none) = same_event _ is refl e (kept_log _ _ refl refl refl refl)
+  event_by (redeems c k is seated answer e none) = same_event _ is refl e (kept_log _ _ refl refl refl refl)
+  event_by (meddles party x r is inside marked room answer e none) = same_event _ is refl e (kept_log _ _ refl refl refl refl)
 
 -- what any call does to the log
 pub event_of : {V : Type 0} (kind : Kind V) (sealed : List Text) (w w' : World) (call : Call V) (a : Answer V) → Holds kind.number sealed w → Step kind w call a w' → Event kind w.hall w'.hall call a
-event_of kind sealed w w' call a holds step = event_by kind sealed w holds call a w'.hall (effect_of kind w a w'.hall call (sym step.outcome))
+event_of kind sealed w w' call a holds step = event_by kind sealed w holds call a w'.hall (effect_of kind w step.given a w'.hall step.sealed call (sym step.outcome))

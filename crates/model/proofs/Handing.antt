@@ -5,6 +5,7 @@ use Rattle.std.proofs.lemmas.Bool.{and_from, lt-ltb}
 use borrow.Author.Tests.{clash}
 use Rattle.kinds.specs.declared.word.Word.{Word}
 use Rattle.wire.specs.declared.entry.Entry.{Entry}
+use Rattle.wire.specs.declared.pair.Seal.{Seal}
 use Rattle.wire.specs.declared.text.Text.{Text}
 use Rattle.wire.specs.Entries.{kind_of}
 use Rattle.wire.specs.Parties.{Client, Replica, replica_of}
@@ -26,7 +27,7 @@ use Rattle.quorums.proofs.Insertion.{inserted_member}
 use Rattle.halls.specs.declared.operation.Operation.{Operation}
 use Rattle.model.specs.Tables.{is_full}
 use Rattle.model.specs.Halls.{Hall, World, Kind, seat_of, desk_of}
-use Rattle.model.specs.Answers.{Answer, done, answers, has_moment}
+use Rattle.model.specs.Answers.{Answer, Outcome, done, has_moment}
 use Rattle.model.specs.Delivering.{client_moves, client_done, client_step_of, deliver_called, entry_of, fits_client}
 use Rattle.model.proofs.ClientEvents.{not_moves, stamps_line}
 use Rattle.model.proofs.ClientMoves.{ClientMove, counts_pair, ends_read, writes_back, takes_stamp, counts_ack, ends_write, goes_on, reads_again, writes_again, replies, heard, client_view}
@@ -154,9 +155,9 @@ module _ {V : Type 0} (kind : Kind V) (sealed : List Text) (w : World) (holds : 
           (λ few. heeds _ (p ∙ ap (λ b. cond b (closing line.word client (heard line e from)) (moves (heard line e from) None)) few)))
 
   -- what comes of a turn: the seat has the line of the turn
-  turned_seat : {a : Answer V} {h' : Hall} (next : Line) (post : Option Entry) (seals : ℕ → ℕ)
-      → answers done (client_moves w.hall client.number (seat_of w.hall client.number) next post seals) ≡ record { answer = a; hall = h' } → (seat_of h' client.number).line ≡ next
-  turned_seat next post seals p = subst (λ h. (seat_of h client.number).line ≡ next) (hall_is p) (moved_line w.hall client.number next post seals holds.sized (client_low client) high)
+  turned_seat : {a : Answer V} {h' : Hall} {text : Option Text} (next : Line) (post : Option Entry) (seals : ℕ → ℕ) (sealed : Option Text)
+      → ◌≡◌ {A = Outcome V} (record { answer = done; hall = client_moves w.hall client.number (seat_of w.hall client.number) next post seals; sealed = sealed }) (record { answer = a; hall = h'; sealed = text }) → (seat_of h' client.number).line ≡ next
+  turned_seat next post seals sealed p = subst (λ h. (seat_of h client.number).line ≡ next) (hall_is p) (moved_line w.hall client.number next post seals holds.sized (client_low client) high)
 
   -- a write that takes its stamp has a seal for it
   stamps_sealed : {turn : Turn} (next : Line) → ClientMove w.hall.rules client line e genuine turn → turn ≡ Stamps next → eqb (w.hall.seals (pair_text kind.number next.highest).party) 0 ≡ false
@@ -173,24 +174,23 @@ module _ {V : Type 0} (kind : Kind V) (sealed : List Text) (w : World) (holds : 
   stamps_sealed next (writes_again h s t) is = not_moves (sym is ∙ t)
   stamps_sealed next (replies k t) is = not_moves (sym is ∙ t)
 
-  module _ (room : is_full w.hall.post ≡ false) (fits : fits_client (kind_of e.kind) e client ≡ true) (a : Answer V) (h' : Hall)
-      (outcome : deliver_called w kind.number number client.number ≡ record { answer = a; hall = h' }) where
+  module _ (room : is_full w.hall.post ≡ false) (fits : fits_client (kind_of e.kind) e client ≡ true) (given : Seal) (a : Answer V) (h' : Hall) (text : Option Text)
+      (outcome : deliver_called w given kind.number number client.number ≡ record { answer = a; hall = h'; sealed = text }) where
     -- the call is the client's step
-    told : client_done (client_step_of w kind.number client e) number w.hall client ≡ record { answer = a; hall = h' }
+    told : client_done (client_step_of w given kind.number client e) number w.hall client ≡ record { answer = a; hall = h'; sealed = text }
     told = sym (rw (holds.sized.tables, lt-ltb number (length w.hall.post.list) posted, client_party w.hall.rules client high, room, moment_room holds, fits) refl) ∙ outcome
 
     -- the line that a turn leaves
     turn_line : (turn : Turn) → ClientMove w.hall.rules client line e genuine turn → decided w.hall.rules client line e genuine ≡ Ok turn → (n : ℕ) → Counts line (next_line turn) n → Counts line (seat_of h' client.number).line n
     turn_line (Moves next post) move is n counts =
         subst (λ l. Counts line l n)
-        (sym (turned_seat next post w.hall.seals (sym (ap (λ v. client_done (acted v kind.number (desk_of w) client line) number w.hall client) is) ∙ told))) counts
+        (sym (turned_seat next post w.hall.seals None (sym (ap (λ v. client_done (acted v kind.number w.hall.seals given client line) number w.hall client) is) ∙ told))) counts
     turn_line (Stamps next) move is n counts =
-        let text = pair_text kind.number next.highest in
-        let seal = w.left_open.given text in
+        let mine = pair_text kind.number next.highest in
         subst (λ l. Counts line l n)
-        (sym (turned_seat (sealed_with next seal) (Some (write_of client (sealed_with next seal))) (spent w.hall.seals text.party)
-        (sym (ap (λ v. client_done (acted v kind.number (desk_of w) client line) number w.hall client) is
-        ∙ ap (λ b. client_done (signing (cond b (record { answer = Err (NoSeal text.party); seals = w.hall.seals }) (record { answer = Ok seal; seals = spent w.hall.seals text.party })) client line next) number w.hall client)
+        (sym (turned_seat (sealed_with next given) (Some (write_of client (sealed_with next given))) (spent w.hall.seals mine.party) (Some mine)
+        (sym (ap (λ v. client_done (acted v kind.number w.hall.seals given client line) number w.hall client) is
+        ∙ ap (λ b. client_done (signing (cond b (record { answer = Err (NoSeal mine.party); seals = w.hall.seals }) (record { answer = Ok given; seals = spent w.hall.seals mine.party })) mine client line next) number w.hall client)
         (stamps_sealed next move refl)) ∙ told)))
         (record { here = counts.here })
 

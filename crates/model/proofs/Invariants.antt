@@ -28,7 +28,7 @@ use Rattle.halls.specs.declared.operation.Operation.{Operation}
 use Rattle.halls.specs.declared.seat.Seat.{Seat}
 use Rattle.model.specs.Tables.{places}
 use Rattle.model.specs.Halls.{Hall, World, no_entry, no_operation, no_configuration, has_its_tables, seat_of, operation_of, end_of}
-use Rattle.model.specs.Runs.{text_of}
+use Rattle.model.specs.Runs.{text_of, is_honest_text}
 use Rattle.model.specs.Delivering.{entry_of}
 
 -- the configuration of an epoch, all 0 past the last
@@ -277,9 +277,9 @@ pub record Holds (kind : ℕ) (sealed : List Text) (w : World) : Type 0 where
   pub log : LogRule w
   pub texts : (t : Text) → Memᴰ t sealed → KnownText kind w.hall t
 
--- a posted seal checks only for a text among these
+-- a posted seal checks, for a text of the source or of a client, only for one among these
 pub record UnforgedNow (kind : ℕ) (sealed : List Text) (w : World) : Type 0 where
-  pub known : (n : ℕ) → n < length w.hall.post.list → (t : Text) → text_of kind (entry_of w.hall n) ≡ Some t → w.genuine t (entry_of w.hall n).seal ≡ true → Memᴰ t sealed
+  pub known : (n : ℕ) → n < length w.hall.post.list → (t : Text) → text_of kind (entry_of w.hall n) ≡ Some t → is_honest_text w.hall.rules t ≡ true → w.genuine t (entry_of w.hall n).seal ≡ true → Memᴰ t sealed
 
 -- the roll goes on as this list, and rules and marks stay
 pub record RollGrows (h : Hall) (r : Rules) (m : ℕ) (list : List Configuration) : Type 0 where

@@ -55,11 +55,9 @@ module _ {V : Type 0} (kind : Kind V) (v : V) (start : World) (lawful : Lawful k
   holds : (i : ℕ) (le : i ≤ run.calls) → Holds kind.number (sealed_at kind v start lawful opened run unforged i) (run.world i)
   holds i le = holds_at kind v start lawful opened run unforged i le
 
-  marked_same : (i : ℕ) → i ≤ run.calls → (hall_at i).marked ≡ start.hall.marked
-  marked_same i le = (grows kind v start lawful opened run unforged 0 i (omega arith) le).marked ∙ ap (λ w. w.hall.marked) run.opens
 
-  did : (j : ℕ) → j < run.calls → Effect kind (run.world j) (run.call j) (run.answer j) (hall_at (j + 1))
-  did j lt = effect_of kind (run.world j) (run.answer j) (hall_at (j + 1)) (run.call j) (sym (run.steps j lt).outcome)
+  did : (j : ℕ) (lt : j < run.calls) → Effect kind (run.world j) (run.steps j lt).given (run.call j) (run.answer j) (hall_at (j + 1)) (run.steps j lt).sealed
+  did j lt = effect_of kind (run.world j) (run.steps j lt).given (run.answer j) (hall_at (j + 1)) (run.steps j lt).sealed (run.call j) (sym (run.steps j lt).outcome)
 
   turn_at : (j c : ℕ) → j < run.calls → 1 ≤ c → c ≤ start.hall.rules.clients → SeatTurn kind (run.world j) (run.call j) (run.answer j) (hall_at (j + 1)) c
   turn_at j c lt low high =
@@ -215,7 +213,7 @@ module _ {V : Type 0} (kind : Kind V) (v : V) (start : World) (lawful : Lawful k
   -- what is handed to client c at position p, of an honest replica
   module _ (q c r p : ℕ) (within : p < run.calls) (number asked : ℕ) (call : run.call p ≡ deliver number c) (posted : number < length (hall_at p).post.list)
       (sender : (entry_of (hall_at p) number).sender ≡ 100 + q) (addressee : (entry_of (hall_at p) number).addressee ≡ c) (round : (entry_of (hall_at p) number).round ≡ r)
-      (low : 1 ≤ c) (high : c ≤ start.hall.rules.clients) (answers : AnswersTo asked (entry_of (hall_at p) number).kind) (room : is_full (hall_at p).post ≡ false) (unmarked : member start.hall.marked q ≡ false) where
+      (low : 1 ≤ c) (high : c ≤ start.hall.rules.clients) (answers : AnswersTo asked (entry_of (hall_at p) number).kind) (room : is_full (hall_at p).post ≡ false) (unmarked : member (hall_at p).marked q ≡ false) where
    le : p ≤ run.calls
    le = omega arith
 
@@ -229,7 +227,7 @@ module _ {V : Type 0} (kind : Kind V) (v : V) (start : World) (lawful : Lawful k
    rule = here.seats c low high_there
 
    honest : Honest (views (hall_at p)) q
-   honest = record { unmarked = ap (λ m. member m q) (marked_same p le) ∙ unmarked }
+   honest = record { unmarked = unmarked }
 
    client : Client
    client = client_numbered c low (omega (arith, high, opened.clients))
@@ -280,8 +278,8 @@ module _ {V : Type 0} (kind : Kind V) (v : V) (start : World) (lawful : Lawful k
         addressed : (is_replica_number (entry_of (hall_at p) number).sender && eqb (entry_of (hall_at p) number).addressee client.number) ≡ true
         addressed = and_from (is_replica_number (entry_of (hall_at p) number).sender) (eqb (entry_of (hall_at p) number).addressee client.number) from_replica (eq-eqb (entry_of (hall_at p) number).addressee client.number addressee)
 
-        outcome : deliver_called (run.world p) kind.number number c ≡ record { answer = run.answer p; hall = hall_at (p + 1) }
-        outcome = ap (λ x. called kind x (run.world p)) (sym call) ∙ sym (run.steps p within).outcome
+        outcome : deliver_called (run.world p) (run.steps p within).given kind.number number c ≡ record { answer = run.answer p; hall = hall_at (p + 1); sealed = (run.steps p within).sealed }
+        outcome = ap (λ x. called kind (run.steps p within).given x (run.world p)) (sym call) ∙ sym (run.steps p within).outcome
 
         onward : Onward (seat_of (hall_at p) c).line (seat_of (hall_at (p + 1)) c).line
         onward = turn_onward (turn_at p c within low high)
@@ -292,7 +290,7 @@ module _ {V : Type 0} (kind : Kind V) (v : V) (start : World) (lawful : Lawful k
         by_kind (inr a) (reads k stage r) = absurd (omega (arith, a.0, k))
         by_kind (inl a) (reads k stage r) =
             handed_counts kind _ (run.world p) here client high_there number posted from room
-            (ap (λ n. fits_client (kind_of n) (entry_of (hall_at p) number) client) a.1 ∙ addressed) (run.answer p) (hall_at (p + 1)) outcome q onward
+            (ap (λ n. fits_client (kind_of n) (entry_of (hall_at p) number) client) a.1 ∙ addressed) (run.steps p within).given (run.answer p) (hall_at (p + 1)) (run.steps p within).sealed outcome q onward
             (λ turn move. move_counts kind _ (run.world p) here client high_there number posted from sent in_round (inl a.1) move)
             (heeded_pair kind _ (run.world p) here client high_there number posted from sent in_round a.1 stage
             (ap (λ n. genuine_by_kind (kind_of n) (hall_at p).rules kind.number (run.world p).genuine (entry_of (hall_at p) number)) a.1
@@ -320,7 +318,7 @@ module _ {V : Type 0} (kind : Kind V) (v : V) (start : World) (lawful : Lawful k
                 small_enough = omega (arith, known_low here _ found.known, rule.count_low, post_small here)
         by_kind (inr a) (writes k stage r) =
             handed_counts kind _ (run.world p) here client high_there number posted from room
-            (ap (λ n. fits_client (kind_of n) (entry_of (hall_at p) number) client) a.1 ∙ addressed) (run.answer p) (hall_at (p + 1)) outcome q onward
+            (ap (λ n. fits_client (kind_of n) (entry_of (hall_at p) number) client) a.1 ∙ addressed) (run.steps p within).given (run.answer p) (hall_at (p + 1)) (run.steps p within).sealed outcome q onward
             (λ turn move. move_counts kind _ (run.world p) here client high_there number posted from sent in_round (inr a.1) move)
             (heeded_ack kind _ (run.world p) here client high_there number posted from sent in_round a.1 (writing stage))
           where
@@ -345,10 +343,11 @@ module _ {V : Type 0} (kind : Kind V) (v : V) (start : World) (lawful : Lawful k
             ((here.answers number posted).ack {q = q} {e = (entry_of (hall_at p) number).epoch} {c = c} {r = (seat_of (hall_at p) c).line.round} (record { sender = sender; kind = a.1; addressee = addressee; round = in_round; epoch = refl }) honest)
 
   -- who was handed over is counted in the round that is still open
-  handed_counted : (i c r asked q : ℕ) → i ≤ run.calls → Open run i c r asked → Handed run i q c r asked → member start.hall.marked q ≡ false → member (seat_of (hall_at i) c).line.counted.0 q ≡ true
-  handed_counted i c r asked q le o h unmarked =
+  handed_counted : (i c r asked q : ℕ) → i ≤ run.calls → Open run i c r asked → Handed run i q c r asked → member (seat_of (hall_at i) c).line.counted.0 q ≡ true
+  handed_counted i c r asked q le o h =
       let p = h.position in
       let within : p < run.calls = omega (arith, h.earlier) in
+      let unmarked = h.unmarked in
       let seat = open_seat i c r asked le o in
       let asked_for : r ≤ (seat_of (hall_at p) c).line.round = has_asked q c r p within h.number asked h.call h.posted h.sender h.addressee h.round seat.low seat.high h.answers h.room unmarked in
       let first = turn_onward (turn_at p c within seat.low seat.high) in
@@ -368,5 +367,5 @@ module _ {V : Type 0} (kind : Kind V) (v : V) (start : World) (lawful : Lawful k
 
   pub responsive : Responsive run
   responsive i c r asked le enough o =
-      let all : Within enough.set (seat_of (hall_at i) c).line.counted.0 = record { each = λ q m. handed_counted i c r asked q le o (enough.handed q m) (enough.unmarked q m) } in
+      let all : Within enough.set (seat_of (hall_at i) c).line.counted.0 = record { each = λ q m. handed_counted i c r asked q le o (enough.handed q m) } in
       omega (arith, enough.large, within_ones all, few_counted i c r asked le o)

@@ -1,6 +1,6 @@
 -- What checks is known: in a world whose posted seals are not forged, a posted pair or configuration that checks is one that
 -- was sealed, and so is in the log or in the roll.
-use Rattle.std.proofs.Common.{◌≡◌, ℕ, ◌<◌, ◌≤◌, true, ◌&&◌, eqb, List, length, Some, sym, ap, ◌∙◌, ⊎_elim, arith}
+use Rattle.std.proofs.Common.{◌≡◌, ℕ, ◌<◌, ◌≤◌, true, ◌&&◌, eqb, List, length, Some, sym, ap, ◌∙◌, refl, ⊎_elim, arith}
 use Rattle.std.proofs.lemmas.Bool.{or_cases, and_parts, eqb-true}
 use Rattle.wire.specs.declared.pair.Configuration.{Configuration}
 use Rattle.wire.specs.declared.pair.Pair.{Pair}
@@ -8,6 +8,7 @@ use Rattle.wire.specs.declared.text.Text.{Text}
 use Rattle.wire.specs.Entries.{pair_of, configuration_of}
 use Rattle.wire.specs.Texts.{pair_text, configuration_text}
 use Rattle.rules.specs.Genuine.{genuine_configuration, opening_pair, first_configuration, same_pair, same_configuration, is_client}
+use Rattle.sealers.proofs.Sealing.{or_right}
 use Rattle.model.specs.Halls.{Hall, World}
 use Rattle.model.specs.Delivering.{entry_of}
 use Rattle.model.specs.Runs.{text_of}
@@ -65,7 +66,7 @@ checked_pair kind sealed w small holds unforged n lt text genuine =
     let client = is_client w.hall.rules p.stamp.writer in
     let checks = w.genuine (pair_text kind p) p.seal in
     ⊎_elim (opening_known w.hall p)
-    (λ seals. text_pair kind w.hall p small (holds.texts (pair_text kind p) (unforged.known n lt (pair_text kind p) text (and_parts client checks seals).1)))
+    (λ seals. text_pair kind w.hall p small (holds.texts (pair_text kind p) (unforged.known n lt (pair_text kind p) text (or_right (eqb p.stamp.writer 0) client (and_parts client checks seals).0) (and_parts client checks seals).1)))
     (or_cases (same_pair p (opening_pair w.hall.rules)) (client && checks) genuine)
 
 -- a posted entry whose text is its configuration's, and whose configuration checks
@@ -76,7 +77,7 @@ pub checked_configuration : (kind : ℕ) (sealed : List Text) (w : World) → ki
 checked_configuration kind sealed w small holds unforged n lt text genuine =
     let c = configuration_of (entry_of w.hall n) in
     ⊎_elim (first_known w.hall c holds.roll)
-    (λ seals. text_configuration kind w.hall c small holds.roll (holds.texts (configuration_text c) (unforged.known n lt (configuration_text c) text seals)))
+    (λ seals. text_configuration kind w.hall c small holds.roll (holds.texts (configuration_text c) (unforged.known n lt (configuration_text c) text refl seals)))
     (or_cases (same_configuration c (first_configuration w.hall.rules)) (w.genuine (configuration_text c) c.seal) genuine)
 
 -- writers of known pairs are small, so that stamps compare as numbers

@@ -4,6 +4,7 @@ use Rattle.std.proofs.Common.{◌≡◌, ℕ, ◌+◌, ◌-◌, ◌≤◌, true,
 use native.Mathlib.Decide.{ℕ_discrete}
 use borrow.Author.Tests.{clash}
 use Rattle.wire.specs.declared.entry.Entry.{Entry}
+use Rattle.wire.specs.declared.pair.Seal.{Seal}
 use Rattle.wire.specs.declared.text.Text.{Text}
 use Rattle.wire.specs.Parties.{Client}
 use Rattle.rules.specs.declared.rules.Rules.{Rules}
@@ -138,8 +139,8 @@ module _ {V : Type 0} (kind : Kind V) (sealed : List Text) (w : World) (holds : 
       (λ same. subst (λ m. SeatTurn kind w call a h' m) same
       (keeps (ap (λ s. s.line) (here_set d seat low' high' e) ∙ line) (ap (λ s. s.operation) (here_set d seat low' high' e) ∙ operation)))
 
-  pub seat_turn : Effect kind w call a h' → SeatTurn kind w call a h' c
-  seat_turn (stands f is e) = seats_kept (ap (λ h. h.seats) (sym e))
+  pub seat_turn : {given : Seal} {s : Option Text} → Effect kind w given call a h' s → SeatTurn kind w call a h' c
+  seat_turn (stands f is e none) = seats_kept (ap (λ h. h.seats) (sym e))
   seat_turn (issues set is allowed p) = seats_kept (ap (λ h. h.seats) (sym (hall_is p)))
   seat_turn (starts client word is allowed p) =
       let e = ap (λ h. h.seats) (sym (hall_is p)) in
@@ -153,22 +154,22 @@ module _ {V : Type 0} (kind : Kind V) (sealed : List Text) (w : World) (holds : 
       (turns number client post is
       (subst (λ l. Turned w.hall.rules client (seat_of w.hall client.number).line (entry_of w.hall number) (genuine_entry w.hall.rules kind.number w.genuine (entry_of w.hall number)) l post)
       (sym (ap (λ z. z.line) (here_set client.number _ seated.low seated.high s)))
-      (turned w kind.number client (entry_of w.hall number) line post seals step))
+      (turned w _ kind.number client (entry_of w.hall number) line post seals _ step))
       (ap (λ z. z.operation) (here_set client.number _ seated.low seated.high s))))
-  seat_turn (replica_steps number party r is inside room fits place saves post step answer e) = seats_kept (ap (λ h. h.seats) (sym e ∙ posting_is _ post))
-  seat_turn (calls_off d k is its unended answer e) =
+  seat_turn (replica_steps number party r is inside room fits place saves post step answer e none) = seats_kept (ap (λ h. h.seats) (sym e ∙ posting_is _ post))
+  seat_turn (calls_off d k is its unended answer e none) =
       let s = ap (λ h. h.seats) (sym e) in
       one_seat d _ its.seated.low its.seated.high s
       (λ same. subst (λ m. SeatTurn kind w call a h' m) same
       (frees (inl (is ∙ ap (call_off d) (sym its.operation), answer)) (ap (λ z. z.line) (here_set d _ its.seated.low its.seated.high s))))
-  seat_turn (collects_it d k u is its over answer e) =
+  seat_turn (collects_it d k u is its over answer e none) =
       let s = ap (λ h. h.seats) (sym e) in
       one_seat d _ its.seated.low its.seated.high s
       (λ same. subst (λ m. SeatTurn kind w call a h' m) same
       (frees (inr (over_shut _ over)) (ap (λ z. z.line) (here_set d _ its.seated.low its.seated.high s))))
-  seat_turn (lodges d k is its answer e) = same_seat d _ its.seated.low its.seated.high (ap (λ h. h.seats) (sym e)) refl refl
-  seat_turn (redeems d k is seated answer e) = same_seat d _ seated.low seated.high (ap (λ h. h.seats) (sym e)) refl refl
-  seat_turn (meddles party x r is inside marked room answer e) = seats_kept (ap (λ h. h.seats) (sym e))
+  seat_turn (lodges d k is its answer e none) = same_seat d _ its.seated.low its.seated.high (ap (λ h. h.seats) (sym e)) refl refl
+  seat_turn (redeems d k is seated answer e none) = same_seat d _ seated.low seated.high (ap (λ h. h.seats) (sym e)) refl refl
+  seat_turn (meddles party x r is inside marked room answer e none) = seats_kept (ap (λ h. h.seats) (sym e))
 
 -- the line goes on
 pub turn_onward : {V : Type 0} {kind : Kind V} {w : World} {call : Call V} {a : Answer V} {h' : Hall} {c : ℕ} → SeatTurn kind w call a h' c → Onward (seat_of w.hall c).line (seat_of h' c).line
@@ -202,9 +203,9 @@ pub record Begun (w : World) (h' : Hall) (c k : ℕ) : Type 0 where
   pub stage : (seat_of h' c).line.stage ≡ Reading
   pub operation : (seat_of h' c).operation ≡ k
 
-pub begun_seat : {V : Type 0} {kind : Kind V} {sealed : List Text} {w : World} {call : Call V} {a : Answer V} {h' : Hall} {c k : ℕ} → Holds kind.number sealed w
-    → begins_slip call a ≡ true → a ≡ slip c k → Effect kind w call a h' → Begun w h' c k
-begun_seat {call = call} holds b s (stands f is e) = absurd (clash (sym (ap (begins_slip call) is ∙ refused_begins_none call f) ∙ b))
+pub begun_seat : {V : Type 0} {kind : Kind V} {sealed : List Text} {w : World} {call : Call V} {a : Answer V} {h' : Hall} {given : Seal} {s : Option Text} {c k : ℕ} → Holds kind.number sealed w
+    → begins_slip call a ≡ true → a ≡ slip c k → Effect kind w given call a h' s → Begun w h' c k
+begun_seat {call = call} holds b s (stands f is e none) = absurd (clash (sym (ap (begins_slip call) is ∙ refused_begins_none call f) ∙ b))
 begun_seat {a = a} holds b s (issues set is allowed p) = absurd (clash (sym (ap (λ c. begins_slip c a) is) ∙ b))
 begun_seat {w = w} {h' = h'} {k = k} holds b s (starts client word is allowed p) =
     let same = slip_same (sym (answer_is p) ∙ s) in
@@ -212,9 +213,9 @@ begun_seat {w = w} {h' = h'} {k = k} holds b s (starts client word is allowed p)
     subst (λ m. Begun w h' m k) same.0
     (record { low = allowed.seated.low; high = allowed.seated.high; stage = ap (λ z. z.line.stage) there; operation = ap (λ z. z.operation) there ∙ same.1 })
 begun_seat {a = a} holds b s (client_steps number client is seated room fits line post seals step answer e) = absurd (clash (sym (ap (λ c. begins_slip c a) is) ∙ b))
-begun_seat {a = a} holds b s (replica_steps number party r is inside room fits place saves post step answer e) = absurd (clash (sym (ap (λ c. begins_slip c a) is) ∙ b))
-begun_seat {a = a} holds b s (calls_off c k is its unended answer e) = absurd (clash (sym (ap (λ c. begins_slip c a) is) ∙ b))
-begun_seat {a = a} holds b s (collects_it c k u is its over answer e) = absurd (clash (sym (ap (λ c. begins_slip c a) is) ∙ b))
-begun_seat {a = a} holds b s (lodges c k is its answer e) = absurd (clash (sym (ap (λ c. begins_slip c a) is) ∙ b))
-begun_seat {a = a} holds b s (redeems c k is seated answer e) = absurd (clash (sym (ap (λ c. begins_slip c a) is) ∙ b))
-begun_seat {a = a} holds b s (meddles party x r is inside marked room answer e) = absurd (clash (sym (ap (λ c. begins_slip c a) is) ∙ b))
+begun_seat {a = a} holds b s (replica_steps number party r is inside room fits place saves post step answer e none) = absurd (clash (sym (ap (λ c. begins_slip c a) is) ∙ b))
+begun_seat {a = a} holds b s (calls_off c k is its unended answer e none) = absurd (clash (sym (ap (λ c. begins_slip c a) is) ∙ b))
+begun_seat {a = a} holds b s (collects_it c k u is its over answer e none) = absurd (clash (sym (ap (λ c. begins_slip c a) is) ∙ b))
+begun_seat {a = a} holds b s (lodges c k is its answer e none) = absurd (clash (sym (ap (λ c. begins_slip c a) is) ∙ b))
+begun_seat {a = a} holds b s (redeems c k is seated answer e none) = absurd (clash (sym (ap (λ c. begins_slip c a) is) ∙ b))
+begun_seat {a = a} holds b s (meddles party x r is inside marked room answer e none) = absurd (clash (sym (ap (λ c. begins_slip c a) is) ∙ b))

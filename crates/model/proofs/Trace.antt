@@ -1,14 +1,16 @@
 -- Where in a run each operation of the log began and ended.
 -- By the events of the calls, along the positions of the run.
-use Rattle.std.proofs.Common.{◌≡◌, ℕ, zero, suc, ◌+◌, ◌<◌, ◌≤◌, true, not, ◌⊎◌, length, is_some, Some, None, Option, sym, refl, ap, ◌∙◌, subst, inl, inr, add-one, arith, eq-eqb, le-leb}
+use Rattle.std.proofs.Common.{◌≡◌, ℕ, zero, suc, ◌+◌, ◌<◌, ◌≤◌, true, cond, not, ◌⊎◌, length, is_some, is_none, Some, None, Option, sym, refl, ap, ◌∙◌, subst, inl, inr, add-one, arith, eq-eqb, le-leb}
 use Rattle.std.proofs.lemmas.Bool.{not-false}
 use native.Mathlib.Decide.{ℕ_discrete, dec_lt}
 use borrow.Author.Tests.{clash}
+use Rattle.kinds.specs.declared.fault.KindFault.TheVariants.{NoValue}
 use Rattle.kinds.specs.declared.word.Word.{Word}
 use Rattle.wire.specs.declared.pair.Pair.{Pair}
 use Rattle.clients.specs.declared.line.Stage.TheVariants.{Over}
+use Rattle.halls.specs.declared.fault.HallFault.TheVariants.{Kind as OfKind}
 use Rattle.model.specs.Halls.{Hall, World, Kind, seat_of, operation_of, has_its_tables, end_of}
-use Rattle.model.specs.Answers.{slip, Outcome}
+use Rattle.model.specs.Answers.{slip, Outcome, refuses}
 use Rattle.model.specs.Beginning.{new_operation, word_or_none}
 use Rattle.model.specs.Delivering.{is_over}
 use Rattle.model.specs.Order.{Operation, a_read, a_write, Ended, collects, value_answered}
@@ -227,6 +229,10 @@ module _ {V : Type 0} (kind : Kind V) (v : V) (start : World) (lawful : Lawful k
       by_word o is (by_read call none) = absurd (clash (sym (t.writes ∙ ap (λ z. is_some z) none) ∙ s.writes))
       by_word o is (by_write u call some) = valued_word u p.word (sym word ∙ t.word_is (kind.word u) some)
 
+  -- what collect answers by this value, once its other tests have passed
+  abbrev given_value : Option V → Hall → ℕ → Outcome V
+  given_value o h c = cond (is_none o) (refuses h (OfKind NoValue)) (collecting o h c (seat_of h c).line.highest)
+
   -- what collect would answer, from the seat
   pub collects_over : (i c k : ℕ) → i ≤ run.calls → 1 ≤ c → c ≤ (hall_at i).rules.clients → (seat_of (hall_at i) c).line.stage ≡ Over → (seat_of (hall_at i) c).operation ≡ k
       → collects kind (run.world i) c k ≡ kind.value (operation_of (hall_at i) k).pair.word
@@ -235,7 +241,7 @@ module _ {V : Type 0} (kind : Kind V) (v : V) (start : World) (lawful : Lawful k
       (collected_value (kind.value (seat_of (hall_at i) c).line.highest.word)
       ∙ ap (λ p. kind.value p.word) (sym (in_stage ((holds i le).seats c low high) over).with_pair) ∙ ap (λ m. kind.value (operation_of (hall_at i) m).pair.word) its)
     where
-      collected_value : (o : Option V) → value_answered (collecting o (hall_at i) c (seat_of (hall_at i) c).line.highest).answer ≡ o
+      collected_value : (o : Option V) → value_answered (given_value o (hall_at i) c).answer ≡ o
       collected_value None = refl
       collected_value (Some u) = refl
 
@@ -248,16 +254,16 @@ module _ {V : Type 0} (kind : Kind V) (v : V) (start : World) (lawful : Lawful k
 
   pub collected : (i c k : ℕ) (u : V) → i ≤ run.calls → collects kind (run.world i) c k ≡ Some u → Collected i c k u
   collected i c k u le p =
-      way_in (λ (o : Outcome V). value_answered o.answer) (has_its_tables (hall_at i)) p
+      way_in (λ (o : Outcome V). value_answered o.answer) (not (has_its_tables (hall_at i))) p
+      (λ t q. not_some q)
       (λ t q. way_in (λ (o : Outcome V). value_answered o.answer) (not (is_its_slip (hall_at i) c k)) q
       (λ n s. not_some s)
       (λ its s. way_in (λ (o : Outcome V). value_answered o.answer) (not (is_over (seat_of (hall_at i) c).line.stage)) s
       (λ n z. not_some z)
       (λ over z. by_value (not-false _ its) (not-false _ over) (kind.value (seat_of (hall_at i) c).line.highest.word) refl z)))
-      (λ t q. not_some q)
     where
       by_value : is_its_slip (hall_at i) c k ≡ true → is_over (seat_of (hall_at i) c).line.stage ≡ true → (o : Option V) → kind.value (seat_of (hall_at i) c).line.highest.word ≡ o
-          → value_answered (collecting o (hall_at i) c (seat_of (hall_at i) c).line.highest).answer ≡ Some u → Collected i c k u
+          → value_answered (given_value o (hall_at i) c).answer ≡ Some u → Collected i c k u
       by_value its over None is z = not_some z
       by_value its over (Some x) is z =
           let slip_is = its_slip (run.world i) c k its in

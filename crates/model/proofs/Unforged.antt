@@ -3,24 +3,24 @@ use Rattle.std.proofs.Common.{◌≡◌, ℕ, zero, suc, ◌+◌, ◌≤◌, ◌
 use Rattle.std.proofs.lemmas.Bool.{true≢false}
 use Rattle.wire.specs.declared.pair.Seal.{Seal}
 use Rattle.wire.specs.declared.text.Text.{Text}
+use Rattle.sealers.specs.Sealing.{genuine_then}
 use Rattle.sealers.proofs.Sealing.{origin}
 use Rattle.model.specs.Halls.{World, Kind, desk_of}
-use Rattle.model.specs.Calls.{sealed_in, genuine_then}
 use Rattle.model.specs.Runs.{Run, SealedBefore, OnlyGiven, Unforged}
 
 module _ {V : Type 0} {kind : Kind V} {start : World} (run : Run kind start) (only : OnlyGiven run) where
   module _ (i : ℕ) (lt : i < run.calls) (t : Text) (s : Seal) where
     earlier : SealedBefore run i t → SealedBefore run (suc i) t
-    earlier before = record { position = before.position; earlier = omega (arith, before.earlier); text = before.text }
+    earlier before = record { position = before.position; earlier = omega (arith, before.earlier); within = before.within; text = before.text }
 
     -- what is genuine after a call was so before it, or the call has sealed it
-    sealed_then : (text : Option Text) → sealed_in kind (run.call i) (run.world i) ≡ text → genuine_then text (run.world i) t s ≡ true
+    sealed_then : (text : Option Text) → (run.steps i lt).sealed ≡ text → genuine_then (desk_of (run.world i)) text (run.steps i lt).given t s ≡ true
         → ((run.world i).genuine t s ≡ true → SealedBefore run i t) → SealedBefore run (suc i) t
     sealed_then None is e before = earlier (before e)
     sealed_then (Some u) is e before = ⊎_elim
         (λ old. earlier (before old))
-        (λ new. record { position = i; earlier = omega arith; text = is ∙ ap Some (sym new.0) })
-        (origin (desk_of (run.world i)) u (only.beside i lt u) t s e)
+        (λ new. record { position = i; earlier = omega arith; within = lt; text = is ∙ ap Some (sym new.0) })
+        (origin (desk_of (run.world i)) u (run.steps i lt).given (only.beside i lt u) t s e)
 
   -- what is genuine at a position was sealed before
   sealed_before : (i : ℕ) → i ≤ run.calls → (t : Text) (s : Seal) → (run.world i).genuine t s ≡ true → SealedBefore run i t
@@ -28,9 +28,9 @@ module _ {V : Type 0} {kind : Kind V} {start : World} (run : Run kind start) (on
   sealed_before (suc i) le t s e =
       let lt : i < run.calls = omega arith in
       let one_more : suc i ≡ i + 1 = omega arith in
-      sealed_then i lt t s (sealed_in kind (run.call i) (run.world i)) refl
-      (ap (λ g. g t s) (sym (run.steps i lt).genuine) ∙ subst (λ k. (run.world k).genuine t s ≡ true) one_more e)
+      sealed_then i lt t s (run.steps i lt).sealed refl
+      (ap (λ g. g t s) (sym (run.steps i lt).seals.genuine) ∙ subst (λ k. (run.world k).genuine t s ≡ true) one_more e)
       (sealed_before i (omega arith) t s)
 
   pub none_forged : Unforged run
-  none_forged i le n posted t carried checks = sealed_before i le t _ checks
+  none_forged i le n posted t carried honest checks = sealed_before i le t _ checks

@@ -1,8 +1,12 @@
--- What the calls of a hall answer, and the hall that they leave.
-use Rattle.std.specs.Prelude.{ℕ, Bool, cond, nat_lt}
+-- What the calls of a hall answer, the hall that they leave, and what they have sealed.
+use Rattle.std.specs.Prelude.{ℕ, Bool, not, List, ◌∷◌, Some, None, Option, nat_lt, refl}
+use Rattle.refusals.specs.Checks.{Check, checked}
+use Rattle.refusals.specs.declared.Layer.TheVariants.{Hall as InHall}
 use Rattle.wire.specs.declared.pair.Pair.{Pair}
+use Rattle.wire.specs.declared.text.Text.{Text}
 use Rattle.halls.specs.declared.fault.HallFault.{HallFault}
 use Rattle.halls.specs.declared.fault.HallFault.TheVariants.{WrongTables}
+use Rattle.halls.specs.Faults.{check}
 use Rattle.model.specs.Halls.{Hall, has_its_tables}
 
 -- an answer: done, the slip of an operation (its client and its place in the log), a pair with its value, or a refusal
@@ -15,17 +19,21 @@ pub data Answer (V : Type 0) : Type 0 where
 pub record Outcome (V : Type 0) : Type 0 where
   pub answer : Answer V
   pub hall : Hall
+  -- the text that the call has sealed, if it has
+  pub sealed : Option Text
 
 -- refused, and the hall as it was
-abbrev pub refuses : {V : Type 0} → HallFault → Hall → Outcome V
-refuses fault h = record { answer = refused fault; hall = h }
+abbrev pub refuses : {V : Type 0} → Hall → HallFault → Outcome V
+refuses h fault = record { answer = refused fault; hall = h; sealed = None }
 
+-- nothing was sealed
 abbrev pub answers : {V : Type 0} → Answer V → Hall → Outcome V
-answers answer h = record { answer = answer; hall = h }
+answers answer h = record { answer = answer; hall = h; sealed = None }
 
--- every call looks first whether the tables have the lengths of the opening
-abbrev pub with_its_tables : {V : Type 0} → Hall → Outcome V → Outcome V
-with_its_tables h outcome = cond (has_its_tables h) outcome (refuses WrongTables h)
+-- every call looks first whether the tables have the lengths of the opening; then its own tests follow, one by one
+abbrev pub after_tests : {V : Type 0} → Hall → List (Check HallFault) → Outcome V → Outcome V
+after_tests h tests outcome =
+    checked (check (not (has_its_tables h)) 4 InHall 0 WrongTables refl ∷ tests) (refuses h) outcome
 
 -- there is a next moment
 abbrev pub has_moment : Hall → Bool

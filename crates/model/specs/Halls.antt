@@ -41,11 +41,11 @@ pub record Hall : Type 0 where
   pub saves : Option ℕ
   pub seals : ℕ → ℕ
 
--- what a store and a sealer leave open: the place that a refused save names, the seal that a text would get,
--- and which others would become genuine beside it
+-- what a store and a sealer leave open: the place that a refused save names, which seals a text may get,
+-- and which others would become genuine beside the one that it gets
 pub record LeftOpen : Type 0 where
   pub next : ℕ
-  pub given : Text → Seal
+  pub allowed : Text → Seal → Bool
   pub beside : Text → Text → Seal → Bool
 
 -- the hall, which seals are genuine, and what its store and its sealer leave open
@@ -54,9 +54,12 @@ pub record World : Type 0 where
   pub genuine : Text → Seal → Bool
   pub left_open : LeftOpen
 
+abbrev pub no_seal : Seal
+no_seal = record { 0 = 0 }
+
 -- the meaning of the sealer, as the steps of the source and of clients take it
 abbrev pub desk_of : World → Desk
-desk_of w = record { genuine = w.genuine; seals = w.hall.seals; given = w.left_open.given; beside = w.left_open.beside }
+desk_of w = record { genuine = w.genuine; seals = w.hall.seals; allowed = w.left_open.allowed; beside = w.left_open.beside }
 
 -- a record kind: its number, the word of a value, the value of a word
 pub record Kind (V : Type 0) : Type 0 where
@@ -64,7 +67,7 @@ pub record Kind (V : Type 0) : Type 0 where
   pub word : V → Word
   pub value : Word → Option V
 
--- what stands behind the end of a table: all numbers 0
+-- what a place behind the end of a table counts as, so that each number names an entry; all its numbers are 0
 abbrev pub no_entry : Entry
 no_entry = record {
   sender = 0;

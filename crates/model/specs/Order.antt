@@ -2,33 +2,23 @@
 -- and each read gives what the last write before it wrote.
 use Rattle.std.specs.Prelude.{◌≡◌, ℕ, ◌+◌, ◌<◌, ◌≤◌, ◌⊎◌, List, [], ◌∷◌, ◌++◌, Some, None, Option}
 use Rattle.orders.specs.Order.{◌∈◌, Distinct}
-use Rattle.model.specs.Halls.{World, Kind}
-use Rattle.model.specs.Answers.{Answer, done, slip, pair, refused}
-use Rattle.model.specs.Calls.{Call, issue, begin_read, begin_write, deliver, call_off, collect, lodge, redeem, meddle}
+use Rattle.model.specs.Halls.{World, Kind, no_seal}
+use Rattle.model.specs.Answers.{Answer, slip, pair}
+use Rattle.model.specs.Calls.{Call, begin_read, begin_write, collect, called}
 use Rattle.model.specs.Runs.{Run}
-use Rattle.model.specs.Slips.{collect_called}
 
 -- the value that a call begins to write
 abbrev pub value_written : {V : Type 0} → Call V → Option V
-value_written (issue set) = None
-value_written (begin_read c) = None
 value_written (begin_write c v) = Some v
-value_written (deliver number party) = None
-value_written (call_off c k) = None
-value_written (collect c k) = None
-value_written (lodge c k) = None
-value_written (redeem c) = None
-value_written (meddle party e) = None
+value_written other = None
 
 abbrev pub value_answered : {V : Type 0} → Answer V → Option V
-value_answered done = None
-value_answered (slip c k) = None
 value_answered (pair p v) = Some v
-value_answered (refused fault) = None
+value_answered other = None
 
--- what collect would answer to a slip: a value, or nothing
+-- what collect would answer to a slip: a value, or nothing; it seals nothing, so no seal is given
 abbrev pub collects : {V : Type 0} → Kind V → World → ℕ → ℕ → Option V
-collects kind w c k = value_answered (collect_called kind w c k).answer
+collects kind w c k = value_answered (called kind no_seal (collect c k) w).answer
 
 module _ {V : Type 0} {kind : Kind V} {start : World} (run : Run kind start) where
   -- an operation is a position whose call was a begin and was answered by a slip (c, k)

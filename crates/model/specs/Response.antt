@@ -44,8 +44,8 @@ module _ {V : Type 0} {kind : Kind V} {start : World} (run : Run kind start) whe
     pub asked_last : LastAsked i c r asked
     pub under_way : UnderWay i c
 
-  -- before position i an answer of replica q to round r of client c, which opened with this kind of entry, was handed to c
-  -- while the post had a free place
+  -- before position i an answer of replica q, unmarked then, to round r of client c, which opened with this kind of entry,
+  -- was handed to c while the post had a free place
   pub record Handed (i q c r asked : ℕ) : Type 0 where
     pub position : ℕ
     pub earlier : position < i
@@ -56,13 +56,13 @@ module _ {V : Type 0} {kind : Kind V} {start : World} (run : Run kind start) whe
     pub addressee : (entry_of (run.world position).hall number).addressee ≡ c
     pub round : (entry_of (run.world position).hall number).round ≡ r
     pub answers : AnswersTo asked (entry_of (run.world position).hall number).kind
+    pub unmarked : member (run.world position).hall.marked q ≡ false
     pub room : is_full (run.world position).hall.post ≡ false
 
-  -- a set of at least 2f+1 replicas, none of them marked, whose answers to the round were all handed over
+  -- a set of at least 2f+1 replicas whose answers to the round were all handed over
   pub record Enough (i c r asked : ℕ) : Type 0 where
     pub set : ℕ
     pub large : 2 * start.hall.rules.faults + 1 ≤ count_ones set
-    pub unmarked : (q : ℕ) → member set q ≡ true → member start.hall.marked q ≡ false
     pub handed : (q : ℕ) → member set q ≡ true → Handed i q c r asked
 
   abbrev pub Responsive : Type 0

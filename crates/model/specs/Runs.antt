@@ -1,9 +1,9 @@
 -- Runs: what an opening leaves, any list of calls from there on, and that no seal is forged.
-use Rattle.std.specs.Prelude.{◌≡◌, ℕ, ◌+◌, ◌<◌, ◌≤◌, true, false, [], ◌∷◌, length, Some, None, Option}
+use Rattle.std.specs.Prelude.{◌≡◌, ℕ, ◌+◌, ◌<◌, ◌≤◌, Bool, true, false, ◌||◌, [], ◌∷◌, length, Some, None, Option, ◌==◌}
 use Rattle.kinds.specs.declared.word.Word.{Word}
 use Rattle.wire.specs.declared.entry.Entry.{Entry}
 use Rattle.wire.specs.declared.entry.EntryKind.{EntryKind}
-use Rattle.wire.specs.declared.entry.EntryKind.TheVariants.{Read, Write, Transfer, Pair as APair, Ack, Stock, Config, Behind}
+use Rattle.wire.specs.declared.entry.EntryKind.TheVariants.{Write, Transfer, Pair as APair, Stock, Config}
 use Rattle.wire.specs.declared.pair.Seal.{Seal}
 use Rattle.wire.specs.declared.text.Text.{Text}
 use Rattle.wire.specs.Entries.{kind_of, pair_of, configuration_of}
@@ -11,14 +11,14 @@ use Rattle.wire.specs.Sets.{member}
 use Rattle.wire.specs.Texts.{pair_text, configuration_text}
 use Rattle.stores.specs.declared.card.Card.{Card}
 use Rattle.rules.specs.declared.rules.Rules.{Rules}
-use Rattle.rules.specs.Genuine.{opening_pair, first_configuration}
+use Rattle.rules.specs.Genuine.{opening_pair, first_configuration, is_client}
 use Rattle.clients.specs.Lines.{idle_line}
 use Rattle.halls.specs.declared.seat.Seat.{Seat}
 use Rattle.model.specs.Tables.{places}
 use Rattle.model.specs.Halls.{Hall, World, Kind, has_its_tables, seat_of}
 use Rattle.model.specs.Answers.{Answer}
 use Rattle.model.specs.Issuing.{is_right_set, has_too_many_marked}
-use Rattle.model.specs.Calls.{Call, Step, sealed_in}
+use Rattle.model.specs.Calls.{Call, Step}
 use Rattle.model.specs.Delivering.{entry_of}
 
 -- the laws of a record kind: its number, a value's word gives back that value, no other word does
@@ -74,31 +74,34 @@ pub record Run {V : Type 0} (kind : Kind V) (start : World) : Type 0 where
   pub steps : (i : ℕ) → i < calls → Step kind (world i) (call i) (answer i) (world (i + 1))
 
 abbrev pub text_by_kind : Option EntryKind → ℕ → Entry → Option Text
-text_by_kind None kind e = None
-text_by_kind (Some Read) kind e = None
 text_by_kind (Some Write) kind e = Some (pair_text kind (pair_of e))
 text_by_kind (Some Transfer) kind e = Some (configuration_text (configuration_of e))
 text_by_kind (Some APair) kind e = Some (pair_text kind (pair_of e))
-text_by_kind (Some Ack) kind e = None
 text_by_kind (Some Stock) kind e = Some (pair_text kind (pair_of e))
 text_by_kind (Some Config) kind e = Some (configuration_text (configuration_of e))
-text_by_kind (Some Behind) kind e = None
+text_by_kind other kind e = None
 
 -- the text that an entry carries: WRITE, PAIR and STOCK a pair's, TRANSFER and CONFIG a configuration's
 abbrev pub text_of : ℕ → Entry → Option Text
 text_of kind e = text_by_kind (kind_of e.kind) kind e
 
+-- a text of the source, or of a client of the hall
+abbrev pub is_honest_text : Rules → Text → Bool
+is_honest_text rules t = t.party == 0 || is_client rules t.party
+
 -- an earlier call of the run has sealed this text
 pub record SealedBefore {V : Type 0} {kind : Kind V} {start : World} (run : Run kind start) (i : ℕ) (t : Text) : Type 0 where
   pub position : ℕ
   pub earlier : position < i
-  pub text : sealed_in kind (run.call position) (run.world position) ≡ Some t
+  pub within : position < run.calls
+  pub text : (run.steps position within).sealed ≡ Some t
 
--- a posted seal checks only for what its party has sealed
+-- a posted seal checks for a text of the source or of a client only if that text was sealed before
 abbrev pub Unforged : {V : Type 0} {kind : Kind V} {start : World} → Run kind start → Type 0
-Unforged {V = V} {kind = kind} run =
+Unforged {kind = kind} run =
     (i : ℕ) → i ≤ run.calls → (n : ℕ) → n < length (run.world i).hall.post.list → (t : Text)
     → text_of kind.number (entry_of (run.world i).hall n) ≡ Some t
+    → is_honest_text (run.world i).hall.rules t ≡ true
     → (run.world i).genuine t (entry_of (run.world i).hall n).seal ≡ true
     → SealedBefore run i t
 
