@@ -44,7 +44,7 @@ pub fn client_step<K: Kind, L: Sealer>(
     sealer: &mut L,
 ) -> Result<Option<Entry>, ClientFault>
     ensures {
-        ClientStep rules.now K.Kind.NUMBER client entry.now line.old (L.desk sealer.old) result line.new
+        ClientStep rules.now K.kind.number client entry.now line.old (L.desk sealer.old) result line.new
             (L.desk sealer.new)
     }
 {

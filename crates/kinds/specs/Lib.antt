@@ -1,3 +1,4 @@
+pub mod Kinds
 pub mod Partial
 pub mod Weights
 pub mod BinWeights

@@ -1,6 +1,7 @@
 // A record kind: a type whose values each have a word, and which knows its own words from all others.
-ghost use Rattle.std.specs.Prelude.{◌≡◌, ℕ, ◌≤◌, Some, Option};
+ghost use Rattle.std.specs.Prelude.{◌≡◌, ℕ, ◌≤◌, Some};
 ghost use Rattle.kinds.specs.declared.word.Word.{Word};
+ghost use Rattle.kinds.specs.Kinds.{RecordKind};
 
 use crate::word::Word;
 
@@ -10,22 +11,23 @@ pub trait Kind: Copy {
 
     ghost NUMBER: { ℕ };
 
-    ghost word: { Self → Word };
-
-    ghost value: { Word → Option Self };
+    // The number, the word of a value and the value of a word, as one.
+    ghost kind: { RecordKind Self };
 
     // Stays: methods, not `From` and `TryFrom`: clauses name a value's word and a word's value as functions, and those traits have relations.
     fn to_word(self) -> Word
-        ensures { result ≡ word self };
+        ensures { result ≡ kind.word self };
 
     fn from_word(w: Word) -> Option<Self>
-        ensures { result ≡ value w };
+        ensures { result ≡ kind.value w };
 
-    ghost numbered: { (1 ≤ NUMBER) × (NUMBER ≤ 63) };
+    ghost numbered: { (1 ≤ kind.number) × (kind.number ≤ 63) };
+
+    ghost same_number: { NUMBER ≡ kind.number };
 
     // A value's word gives back that value,
-    ghost kept: { (v : Self) → value (word v) ≡ Some v };
+    ghost kept: { (v : Self) → kind.value (kind.word v) ≡ Some v };
 
     // and a word gives a value only if it is that value's word.
-    ghost exact: { (w : Word) (v : Self) → value w ≡ Some v → word v ≡ w };
+    ghost exact: { (w : Word) (v : Self) → kind.value w ≡ Some v → kind.word v ≡ w };
 }

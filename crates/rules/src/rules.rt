@@ -66,7 +66,7 @@ impl Rules {
     // Whether it is the opening pair, or a client of the hall has sealed it.
     #[inline(always)]
     pub fn is_genuine_pair<K: Kind, L: Sealer>(&self, pair: Pair, sealer: &L) -> bool
-        ensures { result ≡ genuine_pair self.now K.Kind.NUMBER (L.Sealer.desk sealer.now).genuine pair }
+        ensures { result ≡ genuine_pair self.now K.kind.number (L.desk sealer.now).genuine pair }
     {
         pair == self.opening_pair()
             || self.has_client(pair.stamp.writer)
@@ -79,7 +79,7 @@ impl Rules {
         configuration: Configuration,
         sealer: &L,
     ) -> bool
-        ensures { result ≡ genuine_configuration self.now (L.Sealer.desk sealer.now).genuine configuration }
+        ensures { result ≡ genuine_configuration self.now (L.desk sealer.now).genuine configuration }
     {
         configuration == self.first_configuration()
             || sealer.check(Text::from(configuration), configuration.seal)
@@ -88,7 +88,7 @@ impl Rules {
     // The entry, and whether what it carries is genuine: a pair, a configuration, or nothing.
     #[inline(always)]
     pub fn judge<K: Kind, L: Sealer>(&self, entry: &Entry, sealer: &L) -> Judged
-        ensures { result ≡ record { entry = entry.now; genuine = genuine_entry self.now K.Kind.NUMBER (L.Sealer.desk sealer.now).genuine entry.now } }
+        ensures { result ≡ record { entry = entry.now; genuine = genuine_entry self.now K.kind.number (L.desk sealer.now).genuine entry.now } }
     {
         let genuine = match EntryKind::try_from(entry.kind) {
             Ok(EntryKind::Write | EntryKind::Pair | EntryKind::Stock) => {

@@ -38,11 +38,11 @@ impl Kind for BinWeight {
 
     ghost NUMBER = { 1 };
 
-    ghost word = { weight_word };
-
-    ghost value = { weight_value };
+    ghost kind = { record { number = 1; word = weight_word; value = weight_value } };
 
     ghost numbered = { (leb-true 1 1 refl, leb-true 1 63 refl) };
+
+    ghost same_number = { refl };
 
     ghost kept = { λ v. sym (weight_is v _ _ (sym (grams_back v.grams v.lot v.ok)) (sym (lot_back v.grams v.lot v.ok))) };
 

@@ -76,11 +76,11 @@ impl Kind for LotCard {
 
     ghost NUMBER = { 2 };
 
-    ghost word = { card_word };
-
-    ghost value = { card_value };
+    ghost kind = { record { number = 2; word = card_word; value = card_value } };
 
     ghost numbered = { (leb-true 1 2 refl, leb-true 2 63 refl) };
+
+    ghost same_number = { refl };
 
     ghost kept = { card_kept };
 
