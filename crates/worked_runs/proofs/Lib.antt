@@ -4,4 +4,5 @@ pub mod Ends
 pub mod Rounds
 pub mod Openings
 pub mod Handed
+pub mod FullRound
 pub mod Scripts

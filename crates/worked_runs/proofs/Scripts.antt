@@ -13,7 +13,7 @@ use Rattle.worked_runs.specs.FullScript.{FullAnswers, script, start, new_weight,
 use Rattle.worked_runs.proofs.Lists.{run_of, every_list}
 use Rattle.worked_runs.proofs.Ends.{is_open, ended}
 use Rattle.worked_runs.proofs.Tests.{all_from}
-use Rattle.worked_runs.proofs.Handed.{the_write, write_open, enough}
+use Rattle.worked_runs.proofs.FullRound.{the_write, write_open, round_open, enough_answers}
 use Rattle.worked_runs.proofs.Openings.{opened}
 
 pub short_run : ShortRun
@@ -78,7 +78,8 @@ full_run = record {
   change_before_end = omega arith;
   moved = refl;
   round = 3;
-  enough = enough;
+  round_open = round_open;
+  enough = enough_answers;
   read = 42;
   reader = 2;
   other_client = λ same. omega (arith, same);

@@ -8,7 +8,7 @@ use Rattle.model.specs.Answers.{done}
 use Rattle.model.specs.Calls.{Call, issue, begin_read, begin_write, meddle}
 use Rattle.model.specs.Runs.{Opened}
 use Rattle.model.specs.Order.{Ended}
-use Rattle.model.specs.Response.{Enough}
+use Rattle.model.specs.Response.{Open, Enough}
 use Rattle.worked_runs.specs.Lists.{RunOf}
 
 pub record FullRun {V : Type 0} (kind : Kind V) (start : World) (list : List (Call V)) : Type 0 where
@@ -41,9 +41,11 @@ pub record FullRun {V : Type 0} (kind : Kind V) (start : World) (list : List (Ca
   pub change_after_begin : write < change
   pub change_before_end : change < written
   pub moved : (seat_of (made.run.world (written + 1)).hall writer).line.configuration.epoch ≡ 1
-  -- the round in which it ends: 2f+1 replicas that are not marked have their answers handed to the client while it is open
+  -- the round in which it ends was opened by a WRITE, an entry of kind 2: it is open before the
+  -- last call, and with that call 2f+1 unmarked replicas' answers have been handed to the client
   pub round : ℕ
-  pub enough : Enough made.run (written + 1) writer round
+  pub round_open : Open made.run written writer round 2
+  pub enough : Enough made.run (written + 1) writer round 2
   -- another client reads afterwards, from `read` to `read_done`, and its read gives that value
   pub read : ℕ
   pub reader : ℕ
