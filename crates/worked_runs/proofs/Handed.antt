@@ -1,18 +1,40 @@
 -- What a list of calls hands to a client, and when that is enough.
-use Rattle.std.proofs.Common.{◌≡◌, ℕ, ◌+◌, ◌*◌, ◌<◌, ◌≤◌, true, false, List, length, nat_lt, sym, ap, subst, count_ones}
-use Rattle.std.proofs.lemmas.Bool.{ltb-true}
+use Rattle.std.proofs.Common.{◌≡◌, ℕ, ◌+◌, ◌*◌, ◌<◌, ◌≤◌, Bool, true, false, not, ◌&&◌, ◌||◌, eqb, List, length, nat_lt, refl, sym, ap, ◌∙◌, subst, count_ones, arith}
+use Rattle.std.proofs.lemmas.Bool.{ltb-true, eqb-true, eq-eqb, and_from, not_from_true}
 use Rattle.wire.specs.declared.entry.Entry.{Entry}
 use Rattle.wire.specs.declared.pair.Pair.{Pair}
 use Rattle.wire.specs.Sets.{member}
 use Rattle.rules.specs.Posts.{ack_entry, write_entry}
 use Rattle.model.specs.Tables.{is_full}
 use Rattle.model.specs.Halls.{World, Kind}
-use Rattle.model.specs.Calls.{Call, deliver}
+use Rattle.model.specs.Calls.{Call, issue, begin_read, begin_write, deliver, call_off, collect, lodge, redeem, meddle}
 use Rattle.model.specs.Delivering.{entry_of}
 use Rattle.model.specs.Response.{Handed, Enough, AnswersTo}
-use Rattle.model.specs.Response.AnswersTo.{to_write}
+use Rattle.model.specs.Response.AnswersTo.{to_read, to_write}
 use Rattle.worked_runs.specs.Lists.{call_at, world_at}
 use Rattle.worked_runs.proofs.Lists.{run_of}
+use Rattle.worked_runs.proofs.Tests.{all_from, each}
+
+-- the entry is replica q's ACK (kind 5) in this round
+abbrev pub acknowledges : (q r : ℕ) → Entry → Bool
+acknowledges q r e = eqb e.sender (100 + q) && (eqb e.round r && eqb e.kind 5)
+
+-- the call hands client c an entry whose number passes the test
+abbrev pub hands_to : {V : Type 0} → (ℕ → Bool) → ℕ → Call V → Bool
+hands_to test c (issue set) = false
+hands_to test c (begin_read d) = false
+hands_to test c (begin_write d v) = false
+hands_to test c (deliver number party) = eqb party c && test number
+hands_to test c (call_off d k) = false
+hands_to test c (collect d k) = false
+hands_to test c (lodge d k) = false
+hands_to test c (redeem d) = false
+hands_to test c (meddle party e) = false
+
+-- what answers a WRITE is an ACK
+answer_kind : (asked k : ℕ) → asked ≡ 2 → AnswersTo asked k → k ≡ 5
+answer_kind asked k is to_read = absurd (omega (arith, is))
+answer_kind asked k is to_write = refl
 
 module _ {V : Type 0} (kind : Kind V) (calls : List (Call V)) (start : World) where
   -- the call at this position hands the entry e, of this number, to client c while the post has a free place
@@ -23,7 +45,7 @@ module _ {V : Type 0} (kind : Kind V) (calls : List (Call V)) (start : World) wh
     pub room : is_full (world_at kind calls start position).hall.post ≡ false
 
   -- replica q's ACK of a WRITE of client c in round r was handed over before position i
-  pub handed : (i q c r epoch position number : ℕ) (p : Pair) → position < i
+  unfoldable pub handed : (i q c r epoch position number : ℕ) (p : Pair) → position < i
       → HandsOver position number c (ack_entry (100 + q) (write_entry c r epoch p))
       → Handed (run_of kind calls start) i q c r 2
   handed i q c r epoch position number p before over = record {
@@ -40,7 +62,7 @@ module _ {V : Type 0} (kind : Kind V) (calls : List (Call V)) (start : World) wh
   }
 
   -- the answers of this set were all handed over
-  pub enough : (i c r asked set : ℕ) → 2 * start.hall.rules.faults + 1 ≤ count_ones set
+  unfoldable pub enough : (i c r asked set : ℕ) → 2 * start.hall.rules.faults + 1 ≤ count_ones set
       → ((q : ℕ) → member set q ≡ true → member start.hall.marked q ≡ false)
       → ((q : ℕ) → member set q ≡ true → Handed (run_of kind calls start) i q c r asked)
       → Enough (run_of kind calls start) i c r asked
@@ -50,3 +72,26 @@ module _ {V : Type 0} (kind : Kind V) (calls : List (Call V)) (start : World) wh
     unmarked = unmarked;
     handed = answered;
   }
+
+  -- the call at position p hands client c replica q's ACK in this round
+  abbrev pub is_handed : (q c r p : ℕ) → Bool
+  is_handed q c r p =
+      hands_to (λ n. acknowledges q r (entry_of (world_at kind calls start p).hall n)) c (call_at calls p)
+
+  -- no other call up to there does
+  abbrev pub is_only : (q c r only p : ℕ) → Bool
+  is_only q c r only p = not (is_handed q c r p) || eqb p only
+
+  is_so : (i q c r : ℕ) (h : Handed (run_of kind calls start) i q c r 2) → is_handed q c r h.position ≡ true
+  is_so i q c r h =
+      ap (hands_to (λ n. acknowledges q r (entry_of (world_at kind calls start h.position).hall n)) c) h.call
+      ∙ and_from _ _ (eq-eqb c c refl)
+      (and_from _ _ (eq-eqb _ _ h.sender)
+      (and_from _ _ (eq-eqb _ _ h.round) (eq-eqb _ _ (answer_kind 2 _ refl h.answers))))
+
+  pub once : (i q c r only : ℕ) → all_from (is_only q c r only) 0 i ≡ true
+      → (h : Handed (run_of kind calls start) i q c r 2) → h.position ≡ only
+  once i q c r only tried h =
+      let here : is_only q c r only h.position ≡ true = each (is_only q c r only) 0 i h.position tried (omega arith) (omega (arith, h.earlier)) in
+      let is : not (is_handed q c r h.position) ≡ false = not_from_true _ (is_so i q c r h) in
+      eqb-true _ _ (sym (ap (λ b. b || eqb h.position only) is) ∙ here)

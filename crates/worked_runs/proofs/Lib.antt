@@ -5,4 +5,5 @@ pub mod Rounds
 pub mod Openings
 pub mod Handed
 pub mod FullRound
+pub mod CalledOff
 pub mod Scripts

@@ -3,3 +3,5 @@ pub mod Openings
 pub mod Short
 pub mod Full
 pub mod FullScript
+pub mod CalledOff
+pub mod CalledOffScript

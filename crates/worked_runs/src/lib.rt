@@ -7,6 +7,9 @@ ghost use Rattle.model.specs.Kinds.{bin_weights};
 ghost use Rattle.worked_runs.specs.Short.{ShortRun};
 ghost use Rattle.worked_runs.specs.Full.{FullRun};
 ghost use Rattle.worked_runs.specs.FullScript.{FullAnswers, start, script};
+ghost use Rattle.worked_runs.specs.CalledOff.{CalledOffRun};
+ghost use Rattle.worked_runs.specs.CalledOffScript.{CalledOffAnswers};
+ghost use Rattle.worked_runs.specs.CalledOffScript as off;
 
 use kinds::{BinWeight, Kind};
 
@@ -26,4 +29,11 @@ pub fn full_run()
     ensures kind { bin_weights ≡ record { number = ⟦<BinWeight as Kind>⟧.NUMBER; word = ⟦<BinWeight as Kind>⟧.word; value = ⟦<BinWeight as Kind>⟧.value } }
     ensures answers { FullAnswers }
     ensures run { FullRun bin_weights start (calls_of script) }
+{}
+
+// Twenty-six calls are answered as the rules say, and are a run of which the promise speaks: a write is
+// called off half done, another client reads its value, and two of the answers count though refused.
+pub fn called_off_run()
+    ensures answers { CalledOffAnswers }
+    ensures run { CalledOffRun bin_weights off.start (calls_of off.script) }
 {}
