@@ -4,7 +4,10 @@
 ghost use Rattle.std.specs.Prelude.{◌≡◌};
 ghost use Rattle.worked_runs.specs.Lists.{EveryListRuns, calls_of};
 ghost use Rattle.model.specs.Kinds.{bin_weights};
+ghost use Rattle.worked_runs.specs.Openings.{LeftByOpening};
 ghost use Rattle.worked_runs.specs.Short.{ShortRun};
+ghost use Rattle.worked_runs.specs.Short as short;
+ghost use Rattle.worked_runs.specs.FullScript as full;
 ghost use Rattle.worked_runs.specs.Full.{FullRun};
 ghost use Rattle.worked_runs.specs.FullScript.{FullAnswers, start, script};
 ghost use Rattle.worked_runs.specs.CalledOff.{CalledOffRun};
@@ -36,4 +39,11 @@ pub fn full_run()
 pub fn called_off_run()
     ensures answers { CalledOffAnswers }
     ensures run { CalledOffRun bin_weights off.start (calls_of off.script) }
+{}
+
+// Each of them starts where an opening leaves a register.
+pub fn starts_are_left_by_openings()
+    ensures short { LeftByOpening short.rules 0 short.start }
+    ensures full { LeftByOpening full.rules 8 full.start }
+    ensures called_off { LeftByOpening off.rules 8 off.start }
 {}
