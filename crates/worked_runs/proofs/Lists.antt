@@ -5,7 +5,7 @@ use Rattle.wire.specs.declared.text.Text.{Text}
 use Rattle.sealers.specs.Sealing.{none_beside}
 use Rattle.model.specs.Halls.{World, Kind}
 use Rattle.model.specs.Calls.{Call, Step, called}
-use Rattle.model.specs.Runs.{Run, Unforged}
+use Rattle.model.specs.Runs.{Run, OnlyGiven}
 use Rattle.model.proofs.Unforged.{none_forged}
 use Rattle.worked_runs.specs.Lists.{after, world_at, call_at, EveryListRuns}
 
@@ -46,16 +46,19 @@ module _ {V : Type 0} (kind : Kind V) where
     steps = steps calls start;
   }
 
-  pub unforged : (calls : List (Call V)) (start : World) → ((t : Text) (s : Seal) → start.genuine t s ≡ false) → start.left_open.beside ≡ none_beside → Unforged (run_of calls start)
-  unforged calls start none only = none_forged (run_of calls start) (record {
+  pub only_given : (calls : List (Call V)) (start : World)
+      → ((t : Text) (s : Seal) → start.genuine t s ≡ false) → start.left_open.beside ≡ none_beside
+      → OnlyGiven (run_of calls start)
+  only_given calls start none only = record {
     none = none;
     beside = λ i lt text t s. ap (λ o. o.beside text t s) (open_stays calls start i) ∙ ap (λ f. f text t s) only;
-  })
+  }
 
   abbrev pub every_list : EveryListRuns kind
   every_list start none only calls = record {
     run = run_of calls start;
     many = refl;
     call = λ i. refl;
-    unforged = unforged calls start none only;
+    only_given = only_given calls start none only;
+    unforged = none_forged (run_of calls start) (only_given calls start none only);
   }

@@ -9,7 +9,7 @@ use Rattle.worked_runs.specs.Openings.{opening_weight}
 use Rattle.worked_runs.specs.Short as short
 use Rattle.worked_runs.specs.Short.{ShortRun}
 use Rattle.worked_runs.specs.Full.{FullRun}
-use Rattle.worked_runs.specs.FullScript.{FullAnswers, script, start, new_weight, lie}
+use Rattle.worked_runs.specs.FullScript.{FullAnswers, script, start, new_weight, new_pair, lie}
 use Rattle.worked_runs.proofs.Lists.{run_of, every_list}
 use Rattle.worked_runs.proofs.Ends.{is_open, ended}
 use Rattle.worked_runs.proofs.Tests.{all_from}
@@ -62,6 +62,10 @@ full_run = record {
   writes = refl;
   written = 39;
   write_ends = ended bin_weights (calls_of script) start 1 0 0 39 new_weight the_write (omega arith) write_open write_collected;
+  pair = new_pair;
+  its_word = refl;
+  its_writer = refl;
+  sealed = refl;
   lie = 4;
   liar = 103;
   lying = lie;

@@ -37,7 +37,7 @@ pub record RefusedCount {V : Type 0} {kind : Kind V} {start : World}
 
 pub record CalledOffRun {V : Type 0} (kind : Kind V) (start : World)
     (list : List (Call V)) : Type 0 where
-  -- it starts at an opening with this value, has these calls, and no seal is forged
+  -- it starts at an opening with this value and has these calls; no seal is forged
   pub opening : V
   pub opened : Opened kind opening start.hall
   pub made : RunOf kind start list

@@ -1,8 +1,10 @@
 -- What a full run has: a write that a change of members overtakes, a liar, and a read of the new value by another client.
 -- Where a field is a number of a call, it is the call's position in the run.
-use Rattle.std.specs.Prelude.{◌≡◌, ℕ, ◌+◌, ◌<◌, List, ◌≢◌}
+use Rattle.std.specs.Prelude.{◌≡◌, ℕ, ◌+◌, ◌<◌, true, List, ◌≢◌}
 use Rattle.wire.specs.declared.entry.Entry.{Entry}
+use Rattle.wire.specs.declared.pair.Pair.{Pair}
 use Rattle.wire.specs.declared.set.ReplicaSet.{ReplicaSet}
+use Rattle.wire.specs.Texts.{pair_text}
 use Rattle.model.specs.Halls.{World, Kind, seat_of}
 use Rattle.model.specs.Answers.{done}
 use Rattle.model.specs.Calls.{Call, issue, begin_read, begin_write, meddle}
@@ -12,7 +14,8 @@ use Rattle.model.specs.Response.{Open, Enough}
 use Rattle.worked_runs.specs.Lists.{RunOf}
 
 pub record FullRun {V : Type 0} (kind : Kind V) (start : World) (list : List (Call V)) : Type 0 where
-  -- it starts at an opening with this value, has these calls, and no seal is forged
+  -- it starts at an opening with this value and has these calls; no seal is genuine in it but those
+  -- that are given, and so none is forged
   pub opening : V
   pub opened : Opened kind opening start.hall
   pub made : RunOf kind start list
@@ -24,6 +27,11 @@ pub record FullRun {V : Type 0} (kind : Kind V) (start : World) (list : List (Ca
   pub writes : made.run.call write ≡ begin_write writer value
   pub written : ℕ
   pub write_ends : Ended made.run write written value
+  -- seals are given: at its end the pair that it has written has a genuine one
+  pub pair : Pair
+  pub its_word : pair.word ≡ kind.word value
+  pub its_writer : pair.stamp.writer ≡ writer
+  pub sealed : (made.run.world (written + 1)).genuine (pair_text kind.number pair) pair.seal ≡ true
   -- while it writes, a marked replica lies
   pub lie : ℕ
   pub liar : ℕ

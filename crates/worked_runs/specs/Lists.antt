@@ -6,7 +6,7 @@ use Rattle.sealers.specs.Sealing.{none_beside}
 use Rattle.model.specs.Halls.{World, Kind}
 use Rattle.model.specs.Answers.{Answer}
 use Rattle.model.specs.Calls.{Call, redeem, called, sealed_in, genuine_then}
-use Rattle.model.specs.Runs.{Run, Unforged}
+use Rattle.model.specs.Runs.{Run, Unforged, OnlyGiven}
 
 -- the world after a call: its hall, and the seals that are genuine then
 abbrev pub after : {V : Type 0} → Kind V → Call V → World → World
@@ -30,11 +30,12 @@ abbrev pub answers_of : {V : Type 0} → Kind V → List (Call V) → World → 
 answers_of kind [] w = []
 answers_of kind (call ∷ rest) w = (called kind call w).answer ∷ answers_of kind rest (after kind call w)
 
--- a run with these calls, in which no seal is forged
+-- a run with these calls: no seal is genuine in it but those that are given, and so none is forged
 pub record RunOf {V : Type 0} (kind : Kind V) (start : World) (list : List (Call V)) : Type 0 where
   pub run : Run kind start
   pub many : run.calls ≡ length list
   pub call : (i : ℕ) → run.call i ≡ call_at list i
+  pub only_given : OnlyGiven run
   pub unforged : Unforged run
 
 -- from a world in which no seal is genuine yet, and none becomes so but those that are given, there is such a run for every list of calls
