@@ -34,14 +34,14 @@ pub fn full_run()
     ensures run { FullRun bin_weights start (calls_of script) }
 {}
 
-// Twenty-six calls are answered as the rules say, and are a run of which the promise speaks: a write is
-// called off half done, another client reads its value, and two of the answers count though refused.
+// Twenty-six calls are answered as the rules say, and are a run of which the promise speaks:
+// a write is called off half done, another client reads its value, and two answers count though refused.
 pub fn called_off_run()
     ensures answers { CalledOffAnswers }
     ensures run { CalledOffRun bin_weights off.start (calls_of off.script) }
 {}
 
-// Each of them starts where an opening leaves a register.
+// Each of these three runs starts where an opening leaves a register.
 pub fn starts_are_left_by_openings()
     ensures short { LeftByOpening short.rules 0 short.start }
     ensures full { LeftByOpening full.rules 8 full.start }
