@@ -1,6 +1,7 @@
 -- The run with a call off, by computing what its calls answer and leave.
-use Rattle.std.proofs.Common.{◌≡◌, ℕ, zero, suc, ◌+◌, ◌<◌, true, false, Some, refl, ap, arith, nat_abs, ◌≢◌}
+use Rattle.std.proofs.Common.{◌≡◌, ℕ, zero, suc, ◌+◌, ◌<◌, true, false, Some, refl, ap, arith, nat_abs, ◌≢◌, List, ◌∷◌, ◌++◌, ◌∙◌, ⊎_elim}
 use Rattle.wire.specs.Sets.{member, inserted}
+use Rattle.orders.specs.Order.{◌∈◌}
 use Rattle.quorums.proofs.Digits.{member_below}
 use Rattle.rules.specs.declared.objection.Objection.TheVariants.{AlreadyCounted, NotAwaited}
 use Rattle.rules.specs.Posts.{ack_entry, write_entry}
@@ -8,7 +9,7 @@ use Rattle.clients.specs.declared.fault.ClientFault.TheVariants.{Objects}
 use Rattle.halls.specs.declared.fault.HallFault.TheVariants.{Step}
 use Rattle.halls.specs.declared.fault.StepFault.TheVariants.{Client as ByClient}
 use Rattle.model.specs.Kinds.{bin_weights}
-use Rattle.model.specs.Order.{Operation, collects}
+use Rattle.model.specs.Order.{Operation, collects, Gives, InOrder}
 use Rattle.model.specs.Order.Operation.{a_read}
 use Rattle.model.specs.Response.{Handed, Enough}
 use Rattle.worked_runs.specs.Lists.{calls_of, world_at}
@@ -20,6 +21,7 @@ use Rattle.worked_runs.proofs.Lists.{run_of, every_list}
 use Rattle.worked_runs.proofs.Tests.{all_from}
 use Rattle.worked_runs.proofs.Ends.{is_open, ended, never}
 use Rattle.worked_runs.proofs.Handed.{HandsOver, handed, enough, is_only, once}
+use Rattle.worked_runs.proofs.Orders.{written_or_not}
 use Rattle.worked_runs.proofs.Openings.{opened}
 
 pub called_off_answers : CalledOffAnswers
@@ -95,6 +97,18 @@ refused_count = record {
   late_once = once bin_weights (calls_of script) start 26 0 2 2 24 late_only;
 }
 
+gives : Gives (run_of bin_weights (calls_of script) start) 9 25 new_weight
+gives = record { client = 2; place = 1; operation = the_read; within = omega arith; answers = still_collected }
+
+-- the read gives what only that call writes
+stands : (front back : List ℕ)
+    → InOrder (run_of bin_weights (calls_of script) start) opening_weight (front ++ (9 ∷ back)) → 0 ∈ front
+stands front back order =
+    ⊎_elim
+    (λ written. written)
+    (λ unwritten. absurd (heavier (order.reads front back 9 25 new_weight refl refl gives ∙ unwritten)))
+    (written_or_not bin_weights (calls_of script) start 0 refl opening_weight front)
+
 pub called_off_run : CalledOffRun bin_weights start (calls_of script)
 unfolding member inserted lib.Count.ones
 called_off_run = record {
@@ -130,8 +144,9 @@ called_off_run = record {
   read_ends = ended bin_weights (calls_of script) start 2 1 9 23 new_weight the_read (omega arith) read_open read_collected;
   collect = 25;
   within = omega arith;
-  gives = record { client = 2; place = 1; operation = the_read; within = omega arith; answers = still_collected };
+  gives = gives;
   collected_pair = new_pair;
   collected = refl;
+  stands = stands;
   refused_count = refused_count;
 }

@@ -12,7 +12,7 @@ use Rattle.worked_runs.specs.Lists.{world_at}
 use Rattle.worked_runs.proofs.Lists.{run_of}
 use Rattle.worked_runs.proofs.Tests.{all_from, each}
 
-is_nothing : {V : Type 0} (x : Option V) → is_none x ≡ true → x ≡ None
+pub is_nothing : {V : Type 0} (x : Option V) → is_none x ≡ true → x ≡ None
 is_nothing None e = refl
 is_nothing (Some v) e = absurd (false≢true e)
 

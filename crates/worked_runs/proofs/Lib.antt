@@ -5,5 +5,6 @@ pub mod Rounds
 pub mod Openings
 pub mod Handed
 pub mod FullRound
+pub mod Orders
 pub mod CalledOff
 pub mod Scripts

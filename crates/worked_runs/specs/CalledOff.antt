@@ -1,6 +1,7 @@
 -- What the run with a call off has: a write is called off half done, and its value is read later.
 -- Where a field is a number of a call, it is the call's position in the run.
-use Rattle.std.specs.Prelude.{◌≡◌, ℕ, ◌<◌, ◌≤◌, true, List, ◌≢◌}
+use Rattle.std.specs.Prelude.{◌≡◌, ℕ, ◌<◌, ◌≤◌, true, List, ◌∷◌, ◌++◌, ◌≢◌}
+use Rattle.orders.specs.Order.{◌∈◌}
 use Rattle.wire.specs.declared.pair.Pair.{Pair}
 use Rattle.wire.specs.Sets.{member}
 use Rattle.halls.specs.declared.fault.HallFault.{HallFault}
@@ -9,7 +10,7 @@ use Rattle.model.specs.Answers.{done, slip, pair, refused}
 use Rattle.model.specs.Calls.{Call, begin_read, begin_write, deliver, call_off}
 use Rattle.model.specs.Delivering.{entry_of}
 use Rattle.model.specs.Runs.{Run, Opened}
-use Rattle.model.specs.Order.{Ended, Finished, Gives}
+use Rattle.model.specs.Order.{Ended, Finished, Gives, InOrder}
 use Rattle.model.specs.Response.{Handed, Enough}
 use Rattle.worked_runs.specs.Lists.{RunOf}
 
@@ -78,5 +79,7 @@ pub record CalledOffRun {V : Type 0} (kind : Kind V) (start : World)
   pub gives : Gives made.run read collect value
   pub collected_pair : Pair
   pub collected : made.run.answer collect ≡ pair collected_pair value
+  -- in every order of the operations that the promise speaks of, the write stands before this read
+  pub stands : (front back : List ℕ) → InOrder made.run opening (front ++ (read ∷ back)) → write ∈ front
   -- answers count also where their deliveries are refused
   pub refused_count : RefusedCount made.run
