@@ -1,5 +1,5 @@
 -- The run with a call off, by computing what its calls answer and leave.
-use Rattle.std.proofs.Common.{◌≡◌, ℕ, zero, suc, ◌+◌, ◌<◌, true, false, Some, refl, ap, arith, nat_abs, ◌≢◌, List, ◌∷◌, ◌++◌, ◌∙◌, ⊎_elim}
+use Rattle.std.proofs.Common.{◌≡◌, ℕ, zero, suc, ◌+◌, ◌<◌, true, Some, refl, ap, arith, nat_abs, ◌≢◌, List, ◌∷◌, ◌++◌, ◌∙◌, ⊎_elim}
 use Rattle.wire.specs.Sets.{member, inserted}
 use Rattle.orders.specs.Order.{◌∈◌}
 use Rattle.quorums.proofs.Digits.{member_below}
@@ -11,7 +11,7 @@ use Rattle.halls.specs.declared.fault.StepFault.TheVariants.{Client as ByClient}
 use Rattle.model.specs.Kinds.{bin_weights}
 use Rattle.model.specs.Order.{Operation, collects, Gives, InOrder}
 use Rattle.model.specs.Order.Operation.{a_read}
-use Rattle.model.specs.Response.{Handed, Enough}
+use Rattle.model.specs.Response.{Enough}
 use Rattle.worked_runs.specs.Lists.{calls_of, world_at}
 use Rattle.worked_runs.specs.Openings.{opening_weight}
 use Rattle.worked_runs.specs.FullScript.{new_weight, new_pair}
@@ -20,7 +20,7 @@ use Rattle.worked_runs.specs.CalledOffScript.{CalledOffAnswers, script, start, c
 use Rattle.worked_runs.proofs.Lists.{run_of, every_list}
 use Rattle.worked_runs.proofs.Tests.{all_from}
 use Rattle.worked_runs.proofs.Ends.{is_open, ended, never}
-use Rattle.worked_runs.proofs.Handed.{HandsOver, handed, enough, is_only, once}
+use Rattle.worked_runs.proofs.Handed.{HandsOver, Counts, counts, enough, is_only, once}
 use Rattle.worked_runs.proofs.Orders.{written_or_not}
 use Rattle.worked_runs.proofs.Openings.{opened}
 
@@ -60,26 +60,25 @@ members P none one two (suc (suc zero)) e = two
 members P none one two (suc (suc (suc q))) e = absurd (omega (arith, member_below 3 7 (suc (suc (suc q))) (omega arith) e))
 
 over : (position number q : ℕ)
-    → HandsOver bin_weights (calls_of script) start position number 2 (ack_entry (100 + q) (write_entry 2 2 0 new_pair))
-    → position < 25 → Handed (run_of bin_weights (calls_of script) start) 25 q 2 2 2
-over position number q facts before = handed bin_weights (calls_of script) start 25 q 2 2 0 position number new_pair before facts
+    → HandsOver bin_weights (calls_of script) start position number 2 q (ack_entry (100 + q) (write_entry 2 2 0 new_pair))
+    → position < 25 → Counts bin_weights (calls_of script) start 25 2 2 q
+over position number q facts before = counts bin_weights (calls_of script) start 25 q 2 2 0 position number new_pair before facts
 
 -- entry 14 of replica 0, entry 11 of replica 1 when it comes again, and entry 12 of replica 2
 enough_answers : Enough (run_of bin_weights (calls_of script) start) 25 2 2 2
 unfolding member inserted lib.Count.ones
-enough_answers = enough bin_weights (calls_of script) start 25 2 2 2 7 (omega arith)
-    (members (λ q. member 8 q ≡ false) refl refl refl)
-    (members (λ q. Handed (run_of bin_weights (calls_of script) start) 25 q 2 2 2)
-    (over 24 14 0 (record { call = refl; entry = refl; posted = refl; room = refl }) (omega arith))
-    (over 21 11 1 (record { call = refl; entry = refl; posted = refl; room = refl }) (omega arith))
-    (over 22 12 2 (record { call = refl; entry = refl; posted = refl; room = refl }) (omega arith)))
+enough_answers = enough bin_weights (calls_of script) start 25 2 2 7 (omega arith)
+    (members (Counts bin_weights (calls_of script) start 25 2 2)
+    (over 24 14 0 (record { call = refl; entry = refl; posted = refl; room = refl; unmarked = refl }) (omega arith))
+    (over 21 11 1 (record { call = refl; entry = refl; posted = refl; room = refl; unmarked = refl }) (omega arith))
+    (over 22 12 2 (record { call = refl; entry = refl; posted = refl; room = refl; unmarked = refl }) (omega arith)))
 
 late_only : all_from (is_only bin_weights (calls_of script) start 0 2 2 24) 0 26 ≡ true
 unfolding member inserted lib.Count.ones
 late_only = refl
 
 refused_count : RefusedCount (run_of bin_weights (calls_of script) start)
-unfolding member inserted lib.Count.ones enough_answers enough members over handed
+unfolding member inserted lib.Count.ones enough_answers enough members over counts
 refused_count = record {
   client = 2;
   round = 2;

@@ -1,12 +1,12 @@
 -- The last round of the write in the full run: entry 20 opens it, and entries 21, 22 and 23 of replicas 1, 2 and 4 answer it.
-use Rattle.std.proofs.Common.{◌≡◌, ℕ, zero, suc, ◌+◌, ◌<◌, true, false, refl, inr, arith}
+use Rattle.std.proofs.Common.{◌≡◌, ℕ, zero, suc, ◌+◌, ◌<◌, true, refl, inr, arith}
 use Rattle.std.proofs.lemmas.Bool.{false≢true}
 use Rattle.wire.specs.Sets.{member, inserted}
 use Rattle.quorums.proofs.Digits.{member_below}
 use Rattle.rules.specs.Posts.{ack_entry, write_entry}
 use Rattle.model.specs.Order.{Operation}
 use Rattle.model.specs.Order.Operation.{a_write}
-use Rattle.model.specs.Response.{Handed, Open, Enough}
+use Rattle.model.specs.Response.{Open, Enough}
 use Rattle.worked_runs.specs.Lists.{calls_of}
 use Rattle.model.specs.Kinds.{bin_weights}
 use Rattle.worked_runs.specs.FullScript.{script, start, new_weight, new_pair}
@@ -14,7 +14,7 @@ use Rattle.worked_runs.proofs.Lists.{run_of}
 use Rattle.worked_runs.proofs.Tests.{all_from}
 use Rattle.worked_runs.proofs.Ends.{is_open}
 use Rattle.worked_runs.proofs.Rounds.{last_asked, under_way}
-use Rattle.worked_runs.proofs.Handed.{HandsOver, handed, enough}
+use Rattle.worked_runs.proofs.Handed.{HandsOver, Counts, counts, enough}
 
 -- what holds of replicas 1, 2 and 4 holds of each member of their set
 members : (P : ℕ → Type 0) → P 1 → P 2 → P 4 → (q : ℕ) → member 22 q ≡ true → P q
@@ -45,15 +45,14 @@ round_open = record {
 }
 
 over : (position number q : ℕ)
-    → HandsOver bin_weights (calls_of script) start position number 1 (ack_entry (100 + q) (write_entry 1 3 1 new_pair))
-    → position < 40 → Handed (run_of bin_weights (calls_of script) start) 40 q 1 3 2
-over position number q facts before = handed bin_weights (calls_of script) start 40 q 1 3 1 position number new_pair before facts
+    → HandsOver bin_weights (calls_of script) start position number 1 q (ack_entry (100 + q) (write_entry 1 3 1 new_pair))
+    → position < 40 → Counts bin_weights (calls_of script) start 40 1 3 q
+over position number q facts before = counts bin_weights (calls_of script) start 40 q 1 3 1 position number new_pair before facts
 
 pub enough_answers : Enough (run_of bin_weights (calls_of script) start) 40 1 3 2
 unfolding member inserted lib.Count.ones
-enough_answers = enough bin_weights (calls_of script) start 40 1 3 2 22 (omega arith)
-    (members (λ q. member 8 q ≡ false) refl refl refl)
-    (members (λ q. Handed (run_of bin_weights (calls_of script) start) 40 q 1 3 2)
-    (over 37 21 1 (record { call = refl; entry = refl; posted = refl; room = refl }) (omega arith))
-    (over 38 22 2 (record { call = refl; entry = refl; posted = refl; room = refl }) (omega arith))
-    (over 39 23 4 (record { call = refl; entry = refl; posted = refl; room = refl }) (omega arith)))
+enough_answers = enough bin_weights (calls_of script) start 40 1 3 22 (omega arith)
+    (members (Counts bin_weights (calls_of script) start 40 1 3)
+    (over 37 21 1 (record { call = refl; entry = refl; posted = refl; room = refl; unmarked = refl }) (omega arith))
+    (over 38 22 2 (record { call = refl; entry = refl; posted = refl; room = refl; unmarked = refl }) (omega arith))
+    (over 39 23 4 (record { call = refl; entry = refl; posted = refl; room = refl; unmarked = refl }) (omega arith)))

@@ -37,40 +37,48 @@ answer_kind asked k is to_read = absurd (omega (arith, is))
 answer_kind asked k is to_write = refl
 
 module _ {V : Type 0} (kind : Kind V) (calls : List (Call V)) (start : World) where
-  -- the call at this position hands the entry e, of this number, to client c while the post has a free place
-  pub record HandsOver (position number c : ℕ) (e : Entry) : Type 0 where
+  -- the call at this position hands client c the entry e, of this number, of replica q, which is not marked,
+  -- while the post has a free place
+  pub record HandsOver (position number c q : ℕ) (e : Entry) : Type 0 where
     pub call : call_at calls position ≡ deliver number c
     pub entry : entry_of (world_at kind calls start position).hall number ≡ e
     pub posted : nat_lt number (length (world_at kind calls start position).hall.post.list) ≡ true
     pub room : is_full (world_at kind calls start position).hall.post ≡ false
+    pub unmarked : member start.hall.marked q ≡ false
 
-  -- replica q's ACK of a WRITE of client c in round r was handed over before position i
-  unfoldable pub handed : (i q c r epoch position number : ℕ) (p : Pair) → position < i
-      → HandsOver position number c (ack_entry (100 + q) (write_entry c r epoch p))
-      → Handed (run_of kind calls start) i q c r 2
-  handed i q c r epoch position number p before over = record {
-    position = position;
-    earlier = before;
-    number = number;
-    call = over.call;
-    posted = ltb-true number _ over.posted;
-    sender = ap (λ e. e.sender) over.entry;
-    addressee = ap (λ e. e.addressee) over.entry;
-    round = ap (λ e. e.round) over.entry;
-    answers = subst (AnswersTo 2) (sym (ap (λ e. e.kind) over.entry)) to_write;
-    room = over.room;
+  -- before position i the answer of replica q to the WRITE of client c in round r counts as handed over
+  pub record Counts (i c r q : ℕ) : Type 0 where
+    pub unmarked : member start.hall.marked q ≡ false
+    pub handed : Handed (run_of kind calls start) i q c r 2
+
+  unfoldable pub counts : (i q c r epoch position number : ℕ) (p : Pair) → position < i
+      → HandsOver position number c q (ack_entry (100 + q) (write_entry c r epoch p))
+      → Counts i c r q
+  counts i q c r epoch position number p before over = record {
+    unmarked = over.unmarked;
+    handed = record {
+      position = position;
+      earlier = before;
+      number = number;
+      call = over.call;
+      posted = ltb-true number _ over.posted;
+      sender = ap (λ e. e.sender) over.entry;
+      addressee = ap (λ e. e.addressee) over.entry;
+      round = ap (λ e. e.round) over.entry;
+      answers = subst (AnswersTo 2) (sym (ap (λ e. e.kind) over.entry)) to_write;
+      room = over.room;
+    };
   }
 
-  -- the answers of this set were all handed over
-  unfoldable pub enough : (i c r asked set : ℕ) → 2 * start.hall.rules.faults + 1 ≤ count_ones set
-      → ((q : ℕ) → member set q ≡ true → member start.hall.marked q ≡ false)
-      → ((q : ℕ) → member set q ≡ true → Handed (run_of kind calls start) i q c r asked)
-      → Enough (run_of kind calls start) i c r asked
-  enough i c r asked set large unmarked answered = record {
+  -- the answers of this set count
+  unfoldable pub enough : (i c r set : ℕ) → 2 * start.hall.rules.faults + 1 ≤ count_ones set
+      → ((q : ℕ) → member set q ≡ true → Counts i c r q)
+      → Enough (run_of kind calls start) i c r 2
+  enough i c r set large each_counts = record {
     set = set;
     large = large;
-    unmarked = unmarked;
-    handed = answered;
+    unmarked = λ q e. (each_counts q e).unmarked;
+    handed = λ q e. (each_counts q e).handed;
   }
 
   -- the call at position p hands client c replica q's ACK in this round

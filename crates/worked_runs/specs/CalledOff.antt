@@ -80,6 +80,7 @@ pub record CalledOffRun {V : Type 0} (kind : Kind V) (start : World)
   pub collected_pair : Pair
   pub collected : made.run.answer collect ≡ pair collected_pair value
   -- in every order of the operations that the promise speaks of, the write stands before this read
-  pub stands : (front back : List ℕ) → InOrder made.run opening (front ++ (read ∷ back)) → write ∈ front
+  pub stands : (front back : List ℕ)
+      → InOrder made.run opening (front ++ (read ∷ back)) → write ∈ front
   -- answers count also where their deliveries are refused
   pub refused_count : RefusedCount made.run

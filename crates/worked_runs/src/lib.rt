@@ -34,8 +34,8 @@ pub fn full_run()
     ensures run { FullRun bin_weights start (calls_of script) }
 {}
 
-// Twenty-six calls are answered as the rules say, and are a run of which the promise speaks:
-// a write is called off half done, another client reads its value, and two answers count though refused.
+// Twenty-six calls are answered as the rules say, and are a run of which the promise speaks: a write
+// is called off half done, another client reads its value, and two answers count though refused.
 pub fn called_off_run()
     ensures answers { CalledOffAnswers }
     ensures run { CalledOffRun bin_weights off.start (calls_of off.script) }
