@@ -18,20 +18,21 @@ pub enum StepFault {
     Replica(ReplicaFault),
 }
 
-// Each case names its place: the entry of a delivery, a party, or 0.
+// A number in a case is its place: the entry of a delivery, a party, or 0.
+// A case without one stands at 0, and a fault of another layer at its own place.
 #[derive(Clone, Copy, PartialEq, Eq, Debug)]
 pub enum HallFault {
     // a limit is broken
     Limit,
     // the set is not exactly 3f+1 of the hall's replicas
     WrongSet,
-    // more than f replicas of the set would be marked
+    // more than f replicas of the set are marked, or would be
     TooManyMarked(u64),
     // a table has not the length that it had at the opening
     WrongTables,
     // there is no such party or entry
     NoSuch(u64),
-    // a table to be added to is full
+    // a table to be added to is full, or no moment is left
     Full(u64),
     // sender, kind and receiver of the entry do not fit together
     Unfit(u64),
@@ -45,7 +46,7 @@ pub enum HallFault {
     Source(SourceFault),
     Store(StoreFault),
     Kind(KindFault),
-    // the step that this entry was handed to
+    // the entry of this number was handed over, and the step that was to take it refused
     Step(u64, StepFault),
 }
 
