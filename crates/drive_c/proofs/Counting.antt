@@ -1,12 +1,18 @@
--- A call is counted as done exactly where its answer is no refusal.
-use Rattle.std.proofs.Common.{◌≡◌, Bool, Ok, Err, Result, is_ok, ap, ◌∙◌}
+-- A call of the hall is counted as done exactly where its answer is no refusal. Assumes nothing.
+use Rattle.std.proofs.Common.{◌≡◌, Bool, Ok, Err, Result, sym}
+use Rattle.std.specs.Result.{is_ok}
+use Rattle.kinds.specs.declared.bin_weight.BinWeight.{BinWeight}
 use Rattle.halls.specs.declared.fault.HallFault.{HallFault}
-use Rattle.model.specs.Halls.{Hall}
-use Rattle.model.specs.Answers.{Outcome}
+use Rattle.model.specs.Halls.{World}
+use Rattle.model.specs.Kinds.{bin_weights}
+use Rattle.model.specs.Calls.{Call, Step}
 use Rattle.register.specs.Worlds.{done_or}
-use Rattle.drive_c.specs.Seen.{Seen, seen}
+use Rattle.drive_c.specs.Seen.{Made, is_done}
 
-pub counted : {V : Type 0} (r : Result (Unit {0}) HallFault) (b : Bool) (h : Hall) (o : Outcome V) → b ≡ is_ok r
-    → ◌≡◌ {A = Outcome V} (record { answer = done_or r; hall = h }) o → ◌≡◌ {A = Seen} (record { was_done = b; hall = h }) (seen o)
-counted (Ok u) b h o e p = ap (λ x. record { was_done = x; hall = h }) e ∙ ap seen p
-counted (Err f) b h o e p = ap (λ x. record { was_done = x; hall = h }) e ∙ ap seen p
+told_as : (r : Result (Unit {0}) HallFault) (done : Bool) → done ≡ is_ok r → is_done {V = BinWeight} (done_or r) ≡ done
+told_as (Ok u) done e = sym e
+told_as (Err fault) done e = sym e
+
+pub counted : {before after : World} {call : Call BinWeight} (r : Result (Unit {0}) HallFault) (done : Bool) → done ≡ is_ok r
+    → Step bin_weights before call (done_or r) after → Made before call done after
+counted r done e step = record { answer = done_or r; step = step; told = told_as r done e }

@@ -1,18 +1,17 @@
--- What of a call is counted, and the hall that it leaves.
-use Rattle.std.specs.Prelude.{Bool, true, false}
-use Rattle.model.specs.Halls.{Hall}
-use Rattle.model.specs.Answers.{Answer, Outcome, done, slip, pair, refused}
-
--- whether a call was done, and the hall behind it
-pub record Seen : Type 0 where
-  pub was_done : Bool
-  pub hall : Hall
+-- What of a call is counted: that it was made, and whether it was done or refused.
+use Rattle.std.specs.Prelude.{◌≡◌, Bool, true, false}
+use Rattle.kinds.specs.declared.bin_weight.BinWeight.{BinWeight}
+use Rattle.model.specs.Halls.{World}
+use Rattle.model.specs.Kinds.{bin_weights}
+use Rattle.model.specs.Answers.{Answer, refused}
+use Rattle.model.specs.Calls.{Call, Step}
 
 abbrev pub is_done : {V : Type 0} → Answer V → Bool
-is_done done = true
-is_done (slip c k) = true
-is_done (pair p v) = true
 is_done (refused fault) = false
+is_done other = true
 
-abbrev pub seen : {V : Type 0} → Outcome V → Seen
-seen o = record { was_done = is_done o.answer; hall = o.hall }
+-- the call takes one world to the other, and was done or refused
+pub record Made (before : World) (call : Call BinWeight) (was_done : Bool) (after : World) : Type 0 where
+  pub answer : Answer BinWeight
+  pub step : Step bin_weights before call answer after
+  pub told : is_done answer ≡ was_done

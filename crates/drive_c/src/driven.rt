@@ -3,12 +3,10 @@ ghost use Rattle.std.specs.Prelude.{◌≡◌, ◌-◌, cond, IfOk, fold, length
 ghost use Rattle.lists.specs.Held.{held};
 ghost use Rattle.stores.specs.Saved.{Shelf};
 ghost use Rattle.sealers.specs.Sealing.{Desk};
-ghost use Rattle.model.specs.Issuing.{issue_called};
-ghost use Rattle.model.specs.Delivering.{deliver_called};
-ghost use Rattle.model.specs.Meddling.{meddle_called};
-ghost use Rattle.register.specs.Worlds.{bare, hall_of, world_of};
+ghost use Rattle.model.specs.Calls.{issue, deliver, meddle};
+ghost use Rattle.register.specs.Worlds.{bare, world};
 ghost use Rattle.runner.specs.Slips.{HasSlip, holds_its_slip};
-ghost use Rattle.drive_c.specs.Seen.{seen};
+ghost use Rattle.drive_c.specs.Seen.{Made};
 ghost use Rattle.drive_c.specs.Sums.{mixed};
 ghost use Rattle.drive_c.specs.Tallies.{more};
 
@@ -142,7 +140,11 @@ impl Driven<'_> {
         store: &mut S,
         sealer: &mut L,
     ) -> bool
-        ensures call { record { was_done = result; hall = hall_of self.new.hall self.new.tables (S.Store.shelf store.new) (L.Sealer.desk sealer.new) } ≡ seen (deliver_called {V = BinWeight} (world_of self.old.hall self.old.tables (S.Store.shelf store.old) (L.Sealer.desk sealer.old)) 1 entry party) }
+        ensures call {
+            Made (world self.old.hall self.old.tables (S.shelf store.old) (L.desk sealer.old))
+                (deliver entry party) result
+                (world self.new.hall self.new.tables (S.shelf store.new) (L.desk sealer.new))
+        }
         ensures calls { self.new.tally.calls ≡ more self.old.tally.calls 1 }
         ensures refused { self.new.tally.refused ≡ more self.old.tally.refused (cond result 0 1) }
     {
@@ -156,7 +158,11 @@ impl Driven<'_> {
 
     // Issues this set, and says whether that was done.
     pub(crate) fn issue<L: Sealer>(&mut self, set: ReplicaSet, sealer: &mut L) -> bool
-        ensures call { (shelf : Shelf) → record { was_done = result; hall = hall_of self.new.hall self.new.tables shelf (L.Sealer.desk sealer.new) } ≡ seen (issue_called {V = BinWeight} (world_of self.old.hall self.old.tables shelf (L.Sealer.desk sealer.old)) set) }
+        ensures call {
+            (shelf : Shelf) → Made (world self.old.hall self.old.tables shelf (L.desk sealer.old))
+                (issue set) result
+                (world self.new.hall self.new.tables shelf (L.desk sealer.new))
+        }
         ensures calls { self.new.tally.calls ≡ more self.old.tally.calls 1 }
         ensures refused { self.new.tally.refused ≡ more self.old.tally.refused (cond result 0 1) }
     {
@@ -168,7 +174,11 @@ impl Driven<'_> {
 
     // Posts this entry in the name of the marked replica, and says whether that was done.
     pub(crate) fn meddle(&mut self, party: u64, entry: Entry) -> bool
-        ensures call { (shelf : Shelf) (desk : Desk) → record { was_done = result; hall = hall_of self.new.hall self.new.tables shelf desk } ≡ seen (meddle_called {V = BinWeight} (world_of self.old.hall self.old.tables shelf desk) party entry) }
+        ensures call {
+            (shelf : Shelf) (desk : Desk) → Made (world self.old.hall self.old.tables shelf desk)
+                (meddle party entry) result
+                (world self.new.hall self.new.tables shelf desk)
+        }
         ensures calls { self.new.tally.calls ≡ more self.old.tally.calls 1 }
         ensures refused { self.new.tally.refused ≡ more self.old.tally.refused (cond result 0 1) }
     {

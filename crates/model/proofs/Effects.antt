@@ -27,7 +27,8 @@ use Rattle.kinds.specs.declared.fault.KindFault.TheVariants.{NoValue}
 use Rattle.halls.specs.declared.fault.HallFault.{HallFault}
 use Rattle.halls.specs.declared.fault.HallFault.TheVariants.{NoSuch, Full, NotMarked, NotItsSlip, Kind as OfKind}
 use Rattle.model.specs.Tables.{is_full, added}
-use Rattle.model.specs.Halls.{Hall, World, Kind, seat_of, has_its_tables, party_in, with_post, with_seat, with_store}
+use Rattle.kinds.specs.Kinds.{RecordKind}
+use Rattle.model.specs.Halls.{Hall, World, seat_of, has_its_tables, party_in, with_post, with_seat, with_store}
 use Rattle.model.specs.Answers.{Answer, done, slip, pair, refused, Outcome, refuses, answers, has_moment}
 use Rattle.model.specs.Beginning.{begin_called, begin_by, begin_done, beginning, is_client_in}
 use Rattle.model.specs.Calls.{Call, issue, begin_read, begin_write, deliver, call_off, collect, lodge, redeem, meddle, called}
@@ -39,7 +40,7 @@ use Rattle.model.proofs.Parties.{ReplicaIn, client_in, replica_in, ClientIn}
 use Rattle.model.proofs.Ways.{way, way_in, not_both}
 
 -- the call that begins an operation of client c with this word
-pub data BeginCall {V : Type 0} (kind : Kind V) (call : Call V) (c : ℕ) (word : Option Word) : Type 0 where
+pub data BeginCall {V : Type 0} (kind : RecordKind V) (call : Call V) (c : ℕ) (word : Option Word) : Type 0 where
   by_read : call ≡ begin_read c → word ≡ None → BeginCall kind call c word
   by_write : (v : V) → call ≡ begin_write c v → word ≡ Some (kind.word v) → BeginCall kind call c word
 
@@ -76,7 +77,7 @@ pub record ItsSlip (w : World) (c k : ℕ) : Type 0 where
   pub operation : (seat_of w.hall c).operation ≡ k
 
 -- `given` is the seal that is given, if one is, and s the text that the call has sealed, if it has
-pub data Effect {V : Type 0} (kind : Kind V) (w : World) (given : Seal) (call : Call V) (a : Answer V) (h' : Hall) (s : Option Text) : Type 0 where
+pub data Effect {V : Type 0} (kind : RecordKind V) (w : World) (given : Seal) (call : Call V) (a : Answer V) (h' : Hall) (s : Option Text) : Type 0 where
   -- refused
   stands : (f : HallFault) → a ≡ refused f → w.hall ≡ h' → s ≡ None → Effect kind w given call a h' s
   issues : (set : ReplicaSet) → call ≡ issue set → Issuable w set
@@ -130,7 +131,7 @@ its_slip w c k t =
     let s = and_parts (not (is_idle (seat_of w.hall c).line.stage)) (eqb (seat_of w.hall c).operation k) b.1 in
     record { seated = seated_by w c b.0; busy = not-true _ s.0; operation = eqb-true _ _ s.1 }
 
-module _ {V : Type 0} (kind : Kind V) (w : World) (given : Seal) (a : Answer V) (h' : Hall) (text : Option Text) where
+module _ {V : Type 0} (kind : RecordKind V) (w : World) (given : Seal) (a : Answer V) (h' : Hall) (text : Option Text) where
   stood : (call : Call V) (f : HallFault) → refuses w.hall f ≡ record { answer = a; hall = h'; sealed = text } → Effect kind w given call a h' text
   stood call f p = stands f (answer_is p) (hall_is p) (sealed_is p)
 

@@ -14,7 +14,8 @@ use Rattle.halls.specs.declared.fault.HallFault.{HallFault}
 use Rattle.halls.specs.declared.operation.Operation.{Operation}
 use Rattle.halls.specs.declared.seat.Seat.{Seat}
 use Rattle.model.specs.Tables.{Table}
-use Rattle.model.specs.Halls.{Hall, World, Kind, no_operation, no_seat, seat_of, operation_of, end_of, with_post}
+use Rattle.kinds.specs.Kinds.{RecordKind}
+use Rattle.model.specs.Halls.{Hall, World, no_operation, no_seat, seat_of, operation_of, end_of, with_post}
 use Rattle.model.specs.Answers.{Answer, done, slip, pair, refused}
 use Rattle.model.specs.Beginning.{new_operation}
 use Rattle.model.specs.Calls.{Call, issue, begin_read, begin_write, deliver, call_off, collect, lodge, redeem, meddle, Step}
@@ -88,7 +89,7 @@ begins_slip (lodge c k) a = false
 begins_slip (redeem c) a = false
 begins_slip (meddle party e) a = false
 
-pub data Event {V : Type 0} (kind : Kind V) (h h' : Hall) (call : Call V) (a : Answer V) : Type 0 where
+pub data Event {V : Type 0} (kind : RecordKind V) (h h' : Hall) (call : Call V) (a : Answer V) : Type 0 where
   nothing : begins_slip call a ≡ false → SameLog h h' → Event kind h h' call a
   begins : (c : ℕ) (word : Option Word) → BeginCall kind call c word → a ≡ slip c (length h.log.list) → BegunLog h h' c word → Event kind h h' call a
   ends : (c k : ℕ) → 1 ≤ c → c ≤ h.rules.clients → begins_slip call a ≡ false → EndedLog h h' c k → Event kind h h' call a
@@ -204,7 +205,7 @@ refused_begins_none (lodge c k) f = refl
 refused_begins_none (redeem c) f = refl
 refused_begins_none (meddle party e) f = refl
 
-module _ {V : Type 0} (kind : Kind V) (sealed : List Text) (w : World) (holds : Holds kind.number sealed w) (call : Call V) (a : Answer V) (h' : Hall) where
+module _ {V : Type 0} (kind : RecordKind V) (sealed : List Text) (w : World) (holds : Holds kind.number sealed w) (call : Call V) (a : Answer V) (h' : Hall) where
   -- another hall with this log
   same_event : {other : Call V} (h : Hall) → call ≡ other → begins_slip other a ≡ false → h ≡ h' → SameLog w.hall h → Event kind w.hall h' call a
   same_event h is none e same = nothing (ap (λ c. begins_slip c a) is ∙ none) (subst (λ z. SameLog w.hall z) e same)
@@ -239,5 +240,5 @@ module _ {V : Type 0} (kind : Kind V) (sealed : List Text) (w : World) (holds : 
   event_by (meddles party x r is inside marked room answer e none) = same_event _ is refl e (kept_log _ _ refl refl refl refl)
 
 -- what any call does to the log
-pub event_of : {V : Type 0} (kind : Kind V) (sealed : List Text) (w w' : World) (call : Call V) (a : Answer V) → Holds kind.number sealed w → Step kind w call a w' → Event kind w.hall w'.hall call a
+pub event_of : {V : Type 0} (kind : RecordKind V) (sealed : List Text) (w w' : World) (call : Call V) (a : Answer V) → Holds kind.number sealed w → Step kind w call a w' → Event kind w.hall w'.hall call a
 event_of kind sealed w w' call a holds step = event_by kind sealed w holds call a w'.hall (effect_of kind w step.given a w'.hall step.sealed call (sym step.outcome))

@@ -3,7 +3,8 @@
 use Rattle.std.proofs.Common.{◌≡◌, ℕ, ◌<◌, ◌≤◌, true, length, sym, refl, ap, ◌∙◌, subst, arith, zero, suc, ◌+◌, add-one}
 use native.Mathlib.Decide.{ℕ_discrete}
 use Rattle.halls.specs.declared.operation.Operation.{Operation}
-use Rattle.model.specs.Halls.{Hall, Kind, operation_of, end_of}
+use Rattle.kinds.specs.Kinds.{RecordKind}
+use Rattle.model.specs.Halls.{Hall, operation_of, end_of}
 use Rattle.model.specs.Answers.{Answer}
 use Rattle.model.specs.Calls.{Call}
 use Rattle.model.proofs.Tables.{ended_logged}
@@ -68,7 +69,7 @@ grows_trans {f} {g} {h} a b = record {
     still : (k : ℕ) → 0 < end_of (operation_of f k) → 0 < end_of (operation_of g k)
     still k o = omega (arith, a.ended k o)
 
-pub event_grows : {V : Type 0} {kind : Kind V} {h h' : Hall} {call : Call V} {a : Answer V} → Event kind h h' call a → Grows h h'
+pub event_grows : {V : Type 0} {kind : RecordKind V} {h h' : Hall} {call : Call V} {a : Answer V} → Event kind h h' call a → Grows h h'
 event_grows {h = h} {h' = h'} (nothing none s) = record {
   rules = s.rules_same;
   marked = s.marked_same;

@@ -26,7 +26,8 @@ use Rattle.sealers.specs.Sealing.{spent}
 use Rattle.quorums.proofs.Insertion.{inserted_member}
 use Rattle.halls.specs.declared.operation.Operation.{Operation}
 use Rattle.model.specs.Tables.{is_full}
-use Rattle.model.specs.Halls.{Hall, World, Kind, seat_of, desk_of}
+use Rattle.kinds.specs.Kinds.{RecordKind}
+use Rattle.model.specs.Halls.{Hall, World, seat_of, desk_of}
 use Rattle.model.specs.Answers.{Answer, Outcome, done, has_moment}
 use Rattle.model.specs.Delivering.{client_moves, client_done, client_step_of, deliver_called, entry_of, fits_client}
 use Rattle.model.proofs.ClientEvents.{not_moves, stamps_line}
@@ -81,7 +82,7 @@ pub data Heeded (line : Line) (n : ℕ) (v : Verdict) : Type 0 where
   again : member line.counted.0 n ≡ true → Heeded line n v
   heeds : (turn : Turn) → v ≡ Ok turn → Heeded line n v
 
-module _ {V : Type 0} (kind : Kind V) (sealed : List Text) (w : World) (holds : Holds kind.number sealed w) (client : Client) (high : client.number ≤ w.hall.rules.clients)
+module _ {V : Type 0} (kind : RecordKind V) (sealed : List Text) (w : World) (holds : Holds kind.number sealed w) (client : Client) (high : client.number ≤ w.hall.rules.clients)
     (number : ℕ) (posted : number < length w.hall.post.list) (from : Replica) where
   abbrev line : Line
   line = (seat_of w.hall client.number).line

@@ -1,13 +1,14 @@
 -- The moments of the log keep the order of begins and ends.
 -- Each begin and each end takes the moment after that of the world it meets.
 use Rattle.std.proofs.Common.{◌≡◌, ℕ, ◌+◌, ◌<◌, sym, ◌∙◌, arith}
-use Rattle.model.specs.Halls.{World, Kind}
+use Rattle.kinds.specs.Kinds.{RecordKind}
+use Rattle.model.specs.Halls.{World}
 use Rattle.model.specs.Moments.{Event, begins, ends, MomentsInOrder}
 use Rattle.model.specs.Runs.{Lawful, Opened, Run, Unforged}
 use Rattle.model.proofs.Growing.{Grows}
 use Rattle.model.proofs.Trace.{grows, started, told, end_seen}
 
-module _ {V : Type 0} (kind : Kind V) (v : V) (start : World) (lawful : Lawful kind) (opened : Opened kind v start.hall) (run : Run kind start) (unforged : Unforged run) where
+module _ {V : Type 0} (kind : RecordKind V) (v : V) (start : World) (lawful : Lawful kind) (opened : Opened kind v start.hall) (run : Run kind start) (unforged : Unforged run) where
   -- the moment of what happened at position p
   record Timed (p m : ℕ) : Type 0 where
     within : p < run.calls

@@ -10,7 +10,8 @@ use Rattle.kinds.specs.declared.word.Word.{Word}
 use Rattle.orders.specs.Order.{◌∈◌, Operations, Precedes, last_written, Stamped, Order, Origin}
 use Rattle.orders.specs.Order.Origin.{the_opening as from_opening, a_write as from_write}
 use Rattle.orders.proofs.Theorem.{stamped_operations_have_an_order}
-use Rattle.model.specs.Halls.{Hall, World, Kind, operation_of, end_of}
+use Rattle.kinds.specs.Kinds.{RecordKind}
+use Rattle.model.specs.Halls.{Hall, World, operation_of, end_of}
 use Rattle.model.specs.Order.{Operation, Ended, Gives, Finished, Writes, value_written, newer, held_after, InOrder, Linearizable}
 use Rattle.model.specs.Runs.{Lawful, Opened, Run, Unforged}
 use Rattle.model.proofs.Effects.{BeginCall, by_read, by_write}
@@ -109,7 +110,7 @@ log_stamped kind sealed w holds = record {
         from_write k (below_all (standing w.hall) (length w.hall.log.list) k s.logged (write_stands w.hall k s)) s.writes
         (ap (λ t. t.count * 256 + t.writer) stamp) (ap (λ x. x.0) word)
 
-module _ {V : Type 0} (kind : Kind V) (v : V) (start : World) (lawful : Lawful kind) (opened : Opened kind v start.hall) (run : Run kind start) (unforged : Unforged run) where
+module _ {V : Type 0} (kind : RecordKind V) (v : V) (start : World) (lawful : Lawful kind) (opened : Opened kind v start.hall) (run : Run kind start) (unforged : Unforged run) where
   -- the hall after the last call
   last : Hall
   last = (run.world run.calls).hall

@@ -15,7 +15,8 @@ use Rattle.rules.specs.Genuine.{same_pair, opening_pair, first_configuration, ge
 use Rattle.quorums.specs.Quorums.{Sound}
 use Rattle.histories.specs.Places.{Somewhere, here, there, done}
 use Rattle.histories.specs.Histories.{Good}
-use Rattle.model.specs.Halls.{World, Kind, no_configuration}
+use Rattle.kinds.specs.Kinds.{RecordKind}
+use Rattle.model.specs.Halls.{World, no_configuration}
 use Rattle.model.specs.Issuing.{is_right_set}
 use Rattle.model.specs.Runs.{Opened, first_card, first_seat}
 use Rattle.model.proofs.Invariants.{views, history, issued_as, CardRule, the_opening, SeatRule, ends, Holds}
@@ -44,7 +45,7 @@ right_below rules set right = omega (arith, lt-div-mul-add {a = set} (pow_pos ru
     none : set / 2 ^ rules.replicas * 2 ^ rules.replicas ≡ 0 * 2 ^ rules.replicas
     none = ap (λ m. m * 2 ^ rules.replicas) (eqb-true (set / 2 ^ rules.replicas) 0 (and_parts (eqb (ones set) (3 * rules.faults + 1)) (eqb (set / 2 ^ rules.replicas) 0) right).1)
 
-module _ {V : Type 0} (kind : Kind V) (v : V) (w : World) (o : Opened kind v w.hall) where
+module _ {V : Type 0} (kind : RecordKind V) (v : V) (w : World) (o : Opened kind v w.hall) where
   one_issued : length w.hall.roll.list ≡ 1
   one_issued = ap length o.roll
 

@@ -24,7 +24,8 @@ use Rattle.histories.specs.Shapes.{WriteEntry}
 use Rattle.histories.proofs.Places.{posted_map}
 use Rattle.histories.proofs.Rounds.{Asks as AsksIn, by_read, by_write}
 use Rattle.model.specs.Tables.{is_full}
-use Rattle.model.specs.Halls.{Hall, World, Kind, seat_of, operation_of, end_of}
+use Rattle.kinds.specs.Kinds.{RecordKind}
+use Rattle.model.specs.Halls.{Hall, World, seat_of, operation_of, end_of}
 use Rattle.model.specs.Answers.{slip}
 use Rattle.model.specs.Calls.{deliver, called}
 use Rattle.model.specs.Delivering.{deliver_called, entry_of, fits_client, is_replica_number}
@@ -48,7 +49,7 @@ use Rattle.model.proofs.Trace.{slip_answered, slips_there, grows, collects_over,
 use Rattle.model.proofs.Stages.{in_stage}
 use Rattle.model.proofs.Ways.{not_some}
 
-module _ {V : Type 0} (kind : Kind V) (v : V) (start : World) (lawful : Lawful kind) (opened : Opened kind v start.hall) (run : Run kind start) (unforged : Unforged run) where
+module _ {V : Type 0} (kind : RecordKind V) (v : V) (start : World) (lawful : Lawful kind) (opened : Opened kind v start.hall) (run : Run kind start) (unforged : Unforged run) where
   abbrev hall_at : ℕ → Hall
   hall_at i = (run.world i).hall
 

@@ -5,7 +5,8 @@ use mathlib.Core.List.{Memᴰ}
 use native.Mathlib.Bridge.{le_prop}
 use native.Mathlib.Decide.{ℕ_discrete, dec_lt}
 use Rattle.wire.specs.declared.text.Text.{Text}
-use Rattle.model.specs.Halls.{World, Kind}
+use Rattle.kinds.specs.Kinds.{RecordKind}
+use Rattle.model.specs.Halls.{World}
 use Rattle.model.specs.Runs.{Lawful, Opened, Run, Unforged}
 use Rattle.model.proofs.ClientKeeps.{sealed_with}
 use Rattle.model.proofs.Invariants.{Holds, UnforgedNow}
@@ -20,7 +21,7 @@ sealed_stays : (o : Option Text) (sealed : List Text) (t : Text) → Memᴰ t se
 sealed_stays None sealed t m = m
 sealed_stays (Some u) sealed t m = Memᴰ.tail m
 
-module _ {V : Type 0} (kind : Kind V) (v : V) (start : World) (lawful : Lawful kind) (opened : Opened kind v start.hall) (run : Run kind start) (unforged : Unforged run) where
+module _ {V : Type 0} (kind : RecordKind V) (v : V) (start : World) (lawful : Lawful kind) (opened : Opened kind v start.hall) (run : Run kind start) (unforged : Unforged run) where
   -- the text that the call at position i has sealed, if there is that call
   sealed_by : (i : ℕ) → Dec (i < run.calls) → Option Text
   sealed_by i (yes lt) = (run.steps i lt).sealed

@@ -17,7 +17,8 @@ use Rattle.clients.specs.Lines.{is_open, is_idle}
 use Rattle.quorums.specs.Quorums.{Within}
 use Rattle.quorums.proofs.Insertion.{within_self, within_trans, within_inserted}
 use Rattle.halls.specs.declared.seat.Seat.{Seat}
-use Rattle.model.specs.Halls.{Hall, World, Kind, no_seat, seat_of}
+use Rattle.kinds.specs.Kinds.{RecordKind}
+use Rattle.model.specs.Halls.{Hall, World, no_seat, seat_of}
 use Rattle.model.specs.Answers.{Answer, done, slip}
 use Rattle.model.specs.Calls.{Call, deliver, call_off}
 use Rattle.model.specs.Delivering.{entry_of}
@@ -104,7 +105,7 @@ module _ {rules : Rules} {client : Client} {line : Line} {e : Entry} {genuine : 
       subst (λ z. (is_open z.stage ≡ true) ⊎ (z.stage ≡ Over)) (sym l) (subst (λ z. (is_open (next_line z).stage ≡ true) ⊎ ((next_line z).stage ≡ Over)) is (goes_or_ends opens move))
 
 -- what a call did to the seat of client c
-pub data SeatTurn {V : Type 0} (kind : Kind V) (w : World) (call : Call V) (a : Answer V) (h' : Hall) (c : ℕ) : Type 0 where
+pub data SeatTurn {V : Type 0} (kind : RecordKind V) (w : World) (call : Call V) (a : Answer V) (h' : Hall) (c : ℕ) : Type 0 where
   keeps : (seat_of h' c).line ≡ (seat_of w.hall c).line → (seat_of h' c).operation ≡ (seat_of w.hall c).operation → SeatTurn kind w call a h' c
   begins_here : is_idle (seat_of w.hall c).line.stage ≡ true → (seat_of h' c).line.round ≡ (seat_of w.hall c).line.round + 1 → SeatTurn kind w call a h' c
   turns : (number : ℕ) (client : Client) (post : Option Entry) → call ≡ deliver number c
@@ -114,7 +115,7 @@ pub data SeatTurn {V : Type 0} (kind : Kind V) (w : World) (call : Call V) (a : 
   frees : (call ≡ call_off c (seat_of w.hall c).operation) × (a ≡ done) ⊎ (is_open (seat_of w.hall c).line.stage ≡ false)
       → (seat_of h' c).line ≡ released (seat_of w.hall c).line → SeatTurn kind w call a h' c
 
-module _ {V : Type 0} (kind : Kind V) (sealed : List Text) (w : World) (holds : Holds kind.number sealed w) (call : Call V) (a : Answer V) (h' : Hall) (c : ℕ) (low : 1 ≤ c) (high : c ≤ w.hall.rules.clients) where
+module _ {V : Type 0} (kind : RecordKind V) (sealed : List Text) (w : World) (holds : Holds kind.number sealed w) (call : Call V) (a : Answer V) (h' : Hall) (c : ℕ) (low : 1 ≤ c) (high : c ≤ w.hall.rules.clients) where
   -- the seats are the old ones
   seats_kept : h'.seats ≡ w.hall.seats → SeatTurn kind w call a h' c
   seats_kept e = keeps (ap (λ s. (get_or s (c - 1) no_seat).line) e) (ap (λ s. (get_or s (c - 1) no_seat).operation) e)
@@ -172,7 +173,7 @@ module _ {V : Type 0} (kind : Kind V) (sealed : List Text) (w : World) (holds : 
   seat_turn (meddles party x r is inside marked room answer e none) = seats_kept (ap (λ h. h.seats) (sym e))
 
 -- the line goes on
-pub turn_onward : {V : Type 0} {kind : Kind V} {w : World} {call : Call V} {a : Answer V} {h' : Hall} {c : ℕ} → SeatTurn kind w call a h' c → Onward (seat_of w.hall c).line (seat_of h' c).line
+pub turn_onward : {V : Type 0} {kind : RecordKind V} {w : World} {call : Call V} {a : Answer V} {h' : Hall} {c : ℕ} → SeatTurn kind w call a h' c → Onward (seat_of w.hall c).line (seat_of h' c).line
 turn_onward (keeps line operation) = subst (Onward _) (sym line) (onward_same _)
 turn_onward (begins_here idle up) = onward_later up
 turn_onward (turns number client post is t operation) = turned_onward t
@@ -184,7 +185,7 @@ pub data Staying {V : Type 0} (call : Call V) (a : Answer V) (h' : Hall) (c k : 
   is_ended : (seat_of h' c).line.stage ≡ Over → (seat_of h' c).operation ≡ k → Staying call a h' c k
   is_called_off : call ≡ call_off c k → a ≡ done → Staying call a h' c k
 
-pub turn_staying : {V : Type 0} {kind : Kind V} {w : World} {call : Call V} {a : Answer V} {h' : Hall} {c k : ℕ} → is_open (seat_of w.hall c).line.stage ≡ true → (seat_of w.hall c).operation ≡ k
+pub turn_staying : {V : Type 0} {kind : RecordKind V} {w : World} {call : Call V} {a : Answer V} {h' : Hall} {c k : ℕ} → is_open (seat_of w.hall c).line.stage ≡ true → (seat_of w.hall c).operation ≡ k
     → SeatTurn kind w call a h' c → Staying call a h' c k
 turn_staying opens its (keeps line operation) = stays_open (ap (λ l. is_open l.stage) line ∙ opens) (operation ∙ its)
 turn_staying {w = w} {c = c} opens its (begins_here idle up) = absurd (clash (sym (idle_shut _ idle) ∙ opens))
@@ -203,7 +204,7 @@ pub record Begun (w : World) (h' : Hall) (c k : ℕ) : Type 0 where
   pub stage : (seat_of h' c).line.stage ≡ Reading
   pub operation : (seat_of h' c).operation ≡ k
 
-pub begun_seat : {V : Type 0} {kind : Kind V} {sealed : List Text} {w : World} {call : Call V} {a : Answer V} {h' : Hall} {given : Seal} {s : Option Text} {c k : ℕ} → Holds kind.number sealed w
+pub begun_seat : {V : Type 0} {kind : RecordKind V} {sealed : List Text} {w : World} {call : Call V} {a : Answer V} {h' : Hall} {given : Seal} {s : Option Text} {c k : ℕ} → Holds kind.number sealed w
     → begins_slip call a ≡ true → a ≡ slip c k → Effect kind w given call a h' s → Begun w h' c k
 begun_seat {call = call} holds b s (stands f is e none) = absurd (clash (sym (ap (begins_slip call) is ∙ refused_begins_none call f) ∙ b))
 begun_seat {a = a} holds b s (issues set is allowed p) = absurd (clash (sym (ap (λ c. begins_slip c a) is) ∙ b))

@@ -9,7 +9,8 @@ use Rattle.stores.specs.declared.card.Card.{Card}
 use Rattle.sealers.specs.Sealing.{spent, genuine_then}
 use Rattle.sealers.proofs.Sealing.{remains}
 use Rattle.source.specs.Issued.{next_text}
-use Rattle.model.specs.Halls.{Hall, World, Kind, desk_of, seat_of, with_seat, with_store}
+use Rattle.kinds.specs.Kinds.{RecordKind}
+use Rattle.model.specs.Halls.{Hall, World, desk_of, seat_of, with_seat, with_store}
 use Rattle.model.specs.Answers.{Answer}
 use Rattle.model.specs.Calls.{Call, Step}
 use Rattle.model.specs.Delivering.{posting}
@@ -29,7 +30,7 @@ use Rattle.model.proofs.SlipKeeps.{one_seat_keeps, freed_rule, lodged_rule}
 abbrev pub in_hall : World → Hall → World
 in_hall w h = record w { hall = h }
 
-module _ {V : Type 0} (kind : Kind V) (sealed : List Text) (w : World) (holds : Holds kind.number sealed w) (small : kind.number ≤ 63) (unforged : UnforgedNow kind.number sealed w)
+module _ {V : Type 0} (kind : RecordKind V) (sealed : List Text) (w : World) (holds : Holds kind.number sealed w) (small : kind.number ≤ 63) (unforged : UnforgedNow kind.number sealed w)
     (call : Call V) (given : Seal) (a : Answer V) (h' : Hall) (text : Option Text) (genuine : Text → Seal → Bool) where
   -- a world with this hall and these genuine seals
   abbrev with_seals_of : Hall → World
@@ -81,7 +82,7 @@ module _ {V : Type 0} (kind : Kind V) (sealed : List Text) (w : World) (holds : 
       plain none q (replica_posts kind.number sealed w r.number (sent_by party e) holds room (sym inside.number) (λ honest. absurd (clash (sym honest.unmarked ∙ marked))))
 
 -- every call keeps every rule, whatever store and sealer leave open
-pub step_keeps : {V : Type 0} (kind : Kind V) (sealed : List Text) (w w' : World) (a : Answer V) → kind.number ≤ 63 → Holds kind.number sealed w → UnforgedNow kind.number sealed w
+pub step_keeps : {V : Type 0} (kind : RecordKind V) (sealed : List Text) (w w' : World) (a : Answer V) → kind.number ≤ 63 → Holds kind.number sealed w → UnforgedNow kind.number sealed w
     → (call : Call V) (step : Step kind w call a w') → Holds kind.number (sealed_with step.sealed sealed) w'
 step_keeps kind sealed w w' a small holds unforged call step =
     open_keeps kind.number (sealed_with step.sealed sealed) (record w' { left_open = w.left_open }) w'.left_open

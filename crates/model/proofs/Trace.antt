@@ -9,7 +9,8 @@ use Rattle.kinds.specs.declared.word.Word.{Word}
 use Rattle.wire.specs.declared.pair.Pair.{Pair}
 use Rattle.clients.specs.declared.line.Stage.TheVariants.{Over}
 use Rattle.halls.specs.declared.fault.HallFault.TheVariants.{Kind as OfKind}
-use Rattle.model.specs.Halls.{Hall, World, Kind, seat_of, operation_of, has_its_tables, end_of}
+use Rattle.kinds.specs.Kinds.{RecordKind}
+use Rattle.model.specs.Halls.{Hall, World, seat_of, operation_of, has_its_tables, end_of}
 use Rattle.model.specs.Answers.{slip, Outcome, refuses}
 use Rattle.model.specs.Beginning.{new_operation, word_or_none}
 use Rattle.model.specs.Delivering.{is_over}
@@ -27,15 +28,15 @@ use Rattle.model.proofs.Stages.{in_stage}
 use Rattle.model.proofs.StageTests.{over_is}
 
 -- a begin is a call that is answered by a slip
-pub slip_answered : {V : Type 0} {kind : Kind V} {start : World} (run : Run kind start) {o c k : ℕ} → Operation run o c k → run.answer o ≡ slip c k
+pub slip_answered : {V : Type 0} {kind : RecordKind V} {start : World} (run : Run kind start) {o c k : ℕ} → Operation run o c k → run.answer o ≡ slip c k
 slip_answered run (a_read lt call answer) = answer
 slip_answered run (a_write lt u call answer) = answer
 
-pub slips_there : {V : Type 0} {kind : Kind V} {start : World} (run : Run kind start) {o c k : ℕ} → Operation run o c k → begins_slip (run.call o) (run.answer o) ≡ true
+pub slips_there : {V : Type 0} {kind : RecordKind V} {start : World} (run : Run kind start) {o c k : ℕ} → Operation run o c k → begins_slip (run.call o) (run.answer o) ≡ true
 slips_there run {o} (a_read lt call answer) = ap (λ x. begins_slip x (run.answer o)) call ∙ ap slips answer
 slips_there run {o} (a_write lt u call answer) = ap (λ x. begins_slip x (run.answer o)) call ∙ ap slips answer
 
-module _ {V : Type 0} (kind : Kind V) (v : V) (start : World) (lawful : Lawful kind) (opened : Opened kind v start.hall) (run : Run kind start) (unforged : Unforged run) where
+module _ {V : Type 0} (kind : RecordKind V) (v : V) (start : World) (lawful : Lawful kind) (opened : Opened kind v start.hall) (run : Run kind start) (unforged : Unforged run) where
   abbrev hall_at : ℕ → Hall
   hall_at i = (run.world i).hall
 

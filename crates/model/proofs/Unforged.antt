@@ -5,10 +5,11 @@ use Rattle.wire.specs.declared.pair.Seal.{Seal}
 use Rattle.wire.specs.declared.text.Text.{Text}
 use Rattle.sealers.specs.Sealing.{genuine_then}
 use Rattle.sealers.proofs.Sealing.{origin}
-use Rattle.model.specs.Halls.{World, Kind, desk_of}
+use Rattle.kinds.specs.Kinds.{RecordKind}
+use Rattle.model.specs.Halls.{World, desk_of}
 use Rattle.model.specs.Runs.{Run, SealedBefore, OnlyGiven, Unforged}
 
-module _ {V : Type 0} {kind : Kind V} {start : World} (run : Run kind start) (only : OnlyGiven run) where
+module _ {V : Type 0} {kind : RecordKind V} {start : World} (run : Run kind start) (only : OnlyGiven run) where
   module _ (i : ℕ) (lt : i < run.calls) (t : Text) (s : Seal) where
     earlier : SealedBefore run i t → SealedBefore run (suc i) t
     earlier before = record { position = before.position; earlier = omega (arith, before.earlier); within = before.within; text = before.text }

@@ -5,7 +5,8 @@ use Rattle.wire.specs.declared.pair.Seal.{Seal}
 use Rattle.wire.specs.declared.set.ReplicaSet.{ReplicaSet}
 use Rattle.wire.specs.declared.text.Text.{Text}
 use Rattle.sealers.specs.Sealing.{Seals}
-use Rattle.model.specs.Halls.{World, Kind, desk_of}
+use Rattle.kinds.specs.Kinds.{RecordKind}
+use Rattle.model.specs.Halls.{World, desk_of}
 use Rattle.model.specs.Answers.{Answer, Outcome}
 use Rattle.model.specs.Issuing.{issue_called}
 use Rattle.model.specs.Beginning.{begin_called}
@@ -27,7 +28,7 @@ pub data Call (V : Type 0) : Type 0 where
   meddle : ℕ → Entry → Call V
 
 -- what comes of a call, if this seal is given to what it seals; issue and deliver alone can seal
-abbrev pub called : {V : Type 0} → Kind V → Seal → Call V → World → Outcome V
+abbrev pub called : {V : Type 0} → RecordKind V → Seal → Call V → World → Outcome V
 called kind given (issue set) w = issue_called w given set
 called kind given (begin_read c) w = begin_called w c None
 called kind given (begin_write c v) w = begin_called w c (Some (kind.word v))
@@ -38,10 +39,14 @@ called kind given (lodge c k) w = lodge_called w c k
 called kind given (redeem c) w = redeem_called w c
 called kind given (meddle party e) w = meddle_called w party e
 
--- a call takes a world to another with this answer; which seal is given is left open, and what else store and sealer leave so
-pub record Step {V : Type 0} (kind : Kind V) (before : World) (call : Call V) (answer : Answer V) (after : World) : Type 0 where
+-- a world becomes another with this answer, as it does with the seal that is given; which one that is is left open
+pub record Becomes {V : Type 0} (by : Seal → Outcome V) (before : World) (answer : Answer V) (after : World) : Type 0 where
   pub given : Seal
-  -- the text that it has sealed, if it has
+  -- the text that was sealed, if one was
   pub sealed : Option Text
-  pub outcome : record { answer = answer; hall = after.hall; sealed = sealed } ≡ called kind given call before
+  pub outcome : record { answer = answer; hall = after.hall; sealed = sealed } ≡ by given
   pub seals : Seals (desk_of before) sealed given (desk_of after)
+
+-- a call takes a world to another with this answer
+abbrev pub Step : {V : Type 0} → RecordKind V → World → Call V → Answer V → World → Type 0
+Step kind before call answer after = Becomes (λ given. called kind given call before) before answer after

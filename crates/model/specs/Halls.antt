@@ -1,6 +1,5 @@
 -- A hall as values: its rules and tables, and the meanings of its store and its sealer.
 use Rattle.std.specs.Prelude.{ℕ, ◌-◌, Bool, false, cond, ◌&&◌, List, length, Some, None, Option, ◌==◌, nat_le, nat_lt, unwrap_or, slice_index_or, slice_set}
-use Rattle.kinds.specs.declared.word.Word.{Word}
 use Rattle.wire.specs.declared.entry.Entry.{Entry}
 use Rattle.wire.specs.declared.pair.Configuration.{Configuration}
 use Rattle.wire.specs.declared.pair.Seal.{Seal}
@@ -60,12 +59,6 @@ no_seal = record { 0 = 0 }
 -- the meaning of the sealer, as the steps of the source and of clients take it
 abbrev pub desk_of : World → Desk
 desk_of w = record { genuine = w.genuine; seals = w.hall.seals; allowed = w.left_open.allowed; beside = w.left_open.beside }
-
--- a record kind: its number, the word of a value, the value of a word
-pub record Kind (V : Type 0) : Type 0 where
-  pub number : ℕ
-  pub word : V → Word
-  pub value : Word → Option V
 
 -- what a place behind the end of a table counts as, so that each number names an entry; all its numbers are 0
 abbrev pub no_entry : Entry

@@ -1,7 +1,7 @@
 -- The bin weight as a record kind.
 use Rattle.kinds.specs.declared.bin_weight.BinWeight.{BinWeight}
 use Rattle.kinds.specs.BinWeights.{weight_word, weight_value}
-use Rattle.model.specs.Halls.{Kind}
+use Rattle.kinds.specs.Kinds.{RecordKind}
 
-abbrev pub bin_weights : Kind BinWeight
+abbrev pub bin_weights : RecordKind BinWeight
 bin_weights = record { number = 1; word = weight_word; value = weight_value }

@@ -2,7 +2,8 @@
 -- and each read gives what the last write before it wrote.
 use Rattle.std.specs.Prelude.{◌≡◌, ℕ, ◌+◌, ◌<◌, ◌≤◌, ◌⊎◌, List, [], ◌∷◌, ◌++◌, Some, None, Option}
 use Rattle.orders.specs.Order.{◌∈◌, Distinct}
-use Rattle.model.specs.Halls.{World, Kind, no_seal}
+use Rattle.kinds.specs.Kinds.{RecordKind}
+use Rattle.model.specs.Halls.{World, no_seal}
 use Rattle.model.specs.Answers.{Answer, slip, pair}
 use Rattle.model.specs.Calls.{Call, begin_read, begin_write, collect, called}
 use Rattle.model.specs.Runs.{Run}
@@ -17,10 +18,10 @@ value_answered (pair p v) = Some v
 value_answered other = None
 
 -- what collect would answer to a slip: a value, or nothing; it seals nothing, so no seal is given
-abbrev pub collects : {V : Type 0} → Kind V → World → ℕ → ℕ → Option V
+abbrev pub collects : {V : Type 0} → RecordKind V → World → ℕ → ℕ → Option V
 collects kind w c k = value_answered (called kind no_seal (collect c k) w).answer
 
-module _ {V : Type 0} {kind : Kind V} {start : World} (run : Run kind start) where
+module _ {V : Type 0} {kind : RecordKind V} {start : World} (run : Run kind start) where
   -- an operation is a position whose call was a begin and was answered by a slip (c, k)
   pub data Operation (o c k : ℕ) : Type 0 where
     a_read : o < run.calls → run.call o ≡ begin_read c → run.answer o ≡ slip c k → Operation o c k

@@ -2,7 +2,8 @@
 use Rattle.std.specs.Prelude.{◌≡◌, ℕ, ◌+◌, ◌*◌, ◌<◌, ◌≤◌, true, false, ◌⊎◌, length, None, ◌≢◌, count_ones}
 use Rattle.wire.specs.Sets.{member}
 use Rattle.model.specs.Tables.{is_full}
-use Rattle.model.specs.Halls.{World, Kind}
+use Rattle.kinds.specs.Kinds.{RecordKind}
+use Rattle.model.specs.Halls.{World}
 use Rattle.model.specs.Answers.{done}
 use Rattle.model.specs.Calls.{deliver, call_off}
 use Rattle.model.specs.Delivering.{entry_of}
@@ -18,7 +19,7 @@ pub data AnswersTo : ℕ → ℕ → Type 0 where
   to_read : AnswersTo 1 4
   to_write : AnswersTo 2 5
 
-module _ {V : Type 0} {kind : Kind V} {start : World} (run : Run kind start) where
+module _ {V : Type 0} {kind : RecordKind V} {start : World} (run : Run kind start) where
   -- in the world before position i, the last READ or WRITE that client c posted is of this kind and has round r
   pub record LastAsked (i c r asked : ℕ) : Type 0 where
     pub number : ℕ

@@ -15,14 +15,15 @@ use Rattle.rules.specs.Genuine.{opening_pair, first_configuration, is_client}
 use Rattle.clients.specs.Lines.{idle_line}
 use Rattle.halls.specs.declared.seat.Seat.{Seat}
 use Rattle.model.specs.Tables.{places}
-use Rattle.model.specs.Halls.{Hall, World, Kind, has_its_tables, seat_of}
+use Rattle.kinds.specs.Kinds.{RecordKind}
+use Rattle.model.specs.Halls.{Hall, World, has_its_tables, seat_of}
 use Rattle.model.specs.Answers.{Answer}
 use Rattle.model.specs.Issuing.{is_right_set, has_too_many_marked}
 use Rattle.model.specs.Calls.{Call, Step}
 use Rattle.model.specs.Delivering.{entry_of}
 
 -- the laws of a record kind: its number, a value's word gives back that value, no other word does
-pub record Lawful {V : Type 0} (kind : Kind V) : Type 0 where
+pub record Lawful {V : Type 0} (kind : RecordKind V) : Type 0 where
   pub numbered : kind.number ≤ 63
   pub kept : (v : V) → kind.value (kind.word v) ≡ Some v
   pub exact : (w : Word) (v : V) → kind.value w ≡ Some v → kind.word v ≡ w
@@ -44,7 +45,7 @@ abbrev pub first_seat : Rules → Seat
 first_seat rules = record { line = idle_line (first_configuration rules); operation = 0; lodged = None }
 
 -- what an opening with the value v leaves
-pub record Opened {V : Type 0} (kind : Kind V) (v : V) (h : Hall) : Type 0 where
+pub record Opened {V : Type 0} (kind : RecordKind V) (v : V) (h : Hall) : Type 0 where
   pub faults : 1 ≤ h.rules.faults
   pub replicas : h.rules.replicas ≤ 64
   pub clients : h.rules.clients ≤ 32
@@ -64,7 +65,7 @@ pub record Opened {V : Type 0} (kind : Kind V) (v : V) (h : Hall) : Type 0 where
   pub cards : (n : ℕ) → n < h.rules.replicas → h.place n ≡ Some (first_card h.rules n)
 
 -- any list of calls, from a world on; the calls have the positions 0, 1, 2, ..
-pub record Run {V : Type 0} (kind : Kind V) (start : World) : Type 0 where
+pub record Run {V : Type 0} (kind : RecordKind V) (start : World) : Type 0 where
   pub calls : ℕ
   -- the world before the call at a position
   pub world : ℕ → World
@@ -90,14 +91,14 @@ abbrev pub is_honest_text : Rules → Text → Bool
 is_honest_text rules t = t.party == 0 || is_client rules t.party
 
 -- an earlier call of the run has sealed this text
-pub record SealedBefore {V : Type 0} {kind : Kind V} {start : World} (run : Run kind start) (i : ℕ) (t : Text) : Type 0 where
+pub record SealedBefore {V : Type 0} {kind : RecordKind V} {start : World} (run : Run kind start) (i : ℕ) (t : Text) : Type 0 where
   pub position : ℕ
   pub earlier : position < i
   pub within : position < run.calls
   pub text : (run.steps position within).sealed ≡ Some t
 
 -- a posted seal checks for a text of the source or of a client only if that text was sealed before
-abbrev pub Unforged : {V : Type 0} {kind : Kind V} {start : World} → Run kind start → Type 0
+abbrev pub Unforged : {V : Type 0} {kind : RecordKind V} {start : World} → Run kind start → Type 0
 Unforged {kind = kind} run =
     (i : ℕ) → i ≤ run.calls → (n : ℕ) → n < length (run.world i).hall.post.list → (t : Text)
     → text_of kind.number (entry_of (run.world i).hall n) ≡ Some t
@@ -106,6 +107,6 @@ Unforged {kind = kind} run =
     → SealedBefore run i t
 
 -- nothing is genuine at the start, and no seal becomes so beside one that is given
-pub record OnlyGiven {V : Type 0} {kind : Kind V} {start : World} (run : Run kind start) : Type 0 where
+pub record OnlyGiven {V : Type 0} {kind : RecordKind V} {start : World} (run : Run kind start) : Type 0 where
   pub none : (t : Text) (s : Seal) → start.genuine t s ≡ false
   pub beside : (i : ℕ) → i < run.calls → (text t : Text) (s : Seal) → (run.world i).left_open.beside text t s ≡ false

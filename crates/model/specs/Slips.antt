@@ -10,7 +10,8 @@ use Rattle.halls.specs.declared.fault.HallFault.TheVariants.{NotItsSlip, NotNow,
 use Rattle.halls.specs.declared.seat.Seat.{Seat}
 use Rattle.halls.specs.Faults.{check}
 use Rattle.model.specs.Delivering.{is_over}
-use Rattle.model.specs.Halls.{Hall, World, Kind, seat_of, with_seat}
+use Rattle.kinds.specs.Kinds.{RecordKind}
+use Rattle.model.specs.Halls.{Hall, World, seat_of, with_seat}
 use Rattle.model.specs.Answers.{Outcome, done, slip, pair, refuses, answers, after_tests}
 
 -- a client of the hall has this present operation: it is neither collected nor called off
@@ -44,7 +45,7 @@ collecting None h c p = refuses h (OfKind NoValue)
 collecting (Some v) h c p = answers (pair p v) (with_seat h c (freed (seat_of h c)))
 
 -- collect: once it is over; pair and value of the operation
-abbrev pub collect_called : {V : Type 0} → Kind V → World → ℕ → ℕ → Outcome V
+abbrev pub collect_called : {V : Type 0} → RecordKind V → World → ℕ → ℕ → Outcome V
 collect_called kind w c k =
     after_tests w.hall
     (check (not (is_its_slip w.hall c k)) 18 InClient c (NotItsSlip c) refl

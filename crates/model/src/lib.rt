@@ -9,15 +9,15 @@ use kinds::Kind;
 // All finished operations of a run, with some unfinished writes, stand in one order that keeps real time,
 // and each read gives the last write before it, or the opening value.
 pub fn operations_stand_in_one_order<K: Kind>()
-    ensures { OneOrder (record { number = K.Kind.NUMBER; word = K.Kind.word; value = K.Kind.value }) }
+    ensures { OneOrder K.kind }
 {}
 
 // A round is over once answers to it of 2f+1 different unmarked replicas were handed to its client.
 pub fn rounds_end<K: Kind>()
-    ensures { RoundsEnd (record { number = K.Kind.NUMBER; word = K.Kind.word; value = K.Kind.value }) }
+    ensures { RoundsEnd K.kind }
 {}
 
 // The moments in the log keep the order of begins and ends.
 pub fn log_keeps_time<K: Kind>()
-    ensures { LogInTime (record { number = K.Kind.NUMBER; word = K.Kind.word; value = K.Kind.value }) }
+    ensures { LogInTime K.kind }
 {}

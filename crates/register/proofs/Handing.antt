@@ -1,5 +1,6 @@
 -- What a delivery comes to, once every check before the step has passed.
 use Rattle.std.proofs.Common.{◌≡◌, ℕ, true, false, length, Some, refl, ltb}
+use Rattle.wire.specs.declared.pair.Seal.{Seal}
 use Rattle.wire.specs.declared.party.Party.TheVariants.{Client as AClient}
 use Rattle.wire.specs.Entries.{kind_of}
 use Rattle.wire.specs.Parties.{Client}
@@ -17,6 +18,6 @@ pub record Handed (w : World) (number party : ℕ) (client : Client) : Type 0 wh
   pub time : has_moment w.hall ≡ true
   pub fit : fits_client (kind_of (entry_of w.hall number).kind) (entry_of w.hall number) client ≡ true
 
-pub handed_to_client : {V : Type 0} (w : World) (kind number party : ℕ) (client : Client) → Handed w number party client
-    → deliver_called {V = V} w kind number party ≡ client_done (client_step_of w kind client (entry_of w.hall number)) number w.hall client
-handed_to_client w kind number party client h = rw (h.tables, h.posted, h.who, h.room, h.time, h.fit) refl
+pub handed_to_client : {V : Type 0} (w : World) (given : Seal) (kind number party : ℕ) (client : Client) → Handed w number party client
+    → deliver_called {V = V} w given kind number party ≡ client_done (client_step_of w given kind client (entry_of w.hall number)) number w.hall client
+handed_to_client w given kind number party client h = rw (h.tables, h.posted, h.who, h.room, h.time, h.fit) refl

@@ -5,4 +5,3 @@ pub mod Handing
 pub mod Marks
 pub mod Opening
 pub mod Refusals
-pub mod Seals

@@ -10,7 +10,8 @@ use Rattle.rules.specs.Genuine.{first_configuration}
 use Rattle.stores.specs.declared.fault.StoreFault.TheVariants.{NoSave}
 use Rattle.halls.specs.declared.fault.HallFault.TheVariants.{Limit, Store as OfStore}
 use Rattle.model.specs.Tables.{Table, places}
-use Rattle.model.specs.Halls.{Kind, Hall, Lengths, no_seat}
+use Rattle.kinds.specs.Kinds.{RecordKind}
+use Rattle.model.specs.Halls.{Hall, Lengths, no_seat}
 use Rattle.model.specs.Issuing.{is_right_set, has_too_many_marked}
 use Rattle.model.specs.Runs.{Opened, first_card, first_seat}
 use Rattle.model.proofs.Ways.{not_ok}
@@ -58,7 +59,7 @@ tables_right rules t saves l is = by_tables (right_tables rules t) is
 all_true : {a b : Bool} → a ≡ true → b ≡ true → (a && b) ≡ true
 all_true p q = rw (p, q) refl
 
-module _ {V : Type 0} (kind : Kind V) (v : V) (rules : Rules) (marked : ℕ) (t : Lent) (shelf : Shelf) (desk : Desk) where
+module _ {V : Type 0} (kind : RecordKind V) (v : V) (rules : Rules) (marked : ℕ) (t : Lent) (shelf : Shelf) (desk : Desk) where
   opening_right : within_limits rules.faults rules.replicas rules.clients ≡ true
       → is_right_set rules rules.first.0 ≡ true
       → has_too_many_marked rules marked rules.first.0 ≡ false

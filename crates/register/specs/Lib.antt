@@ -1,4 +1,5 @@
 pub mod Worlds
+pub mod Stepping
 pub mod Seats
 pub mod Setups
 pub mod Views

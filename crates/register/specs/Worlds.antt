@@ -10,7 +10,7 @@ use Rattle.halls.specs.declared.fault.HallFault.TheVariants.{Step}
 use Rattle.halls.specs.declared.fault.StepFault.{StepFault}
 use Rattle.model.specs.Tables.{Table}
 use Rattle.model.specs.Halls.{Hall, World}
-use Rattle.model.specs.Answers.{Answer, Outcome, done, slip, pair, refused}
+use Rattle.model.specs.Answers.{Answer, Outcome, answers, done, slip, pair, refused}
 use Rattle.register.specs.declared.hall.Hall.{Hall as TheHall}
 use Rattle.register.specs.declared.slip.Kept.{Kept}
 use Rattle.register.specs.declared.slip.Slip.{Slip}
@@ -37,18 +37,19 @@ hall_of h t shelf desk = record {
   seals = desk.seals;
 }
 
-abbrev pub world_of : {K : Type 0} → TheHall K → Tables → Shelf → Desk → World
-world_of h t shelf desk = record {
+-- the world of the model that a hall makes with its tables, its store and its sealer
+abbrev pub world : {K : Type 0} → TheHall K → Tables → Shelf → Desk → World
+world h t shelf desk = record {
   hall = hall_of h t shelf desk;
   genuine = desk.genuine;
-  left_open = record { next = shelf.next; given = desk.given; beside = desk.beside };
+  left_open = record { next = shelf.next; allowed = desk.allowed; beside = desk.beside };
 }
 
 -- store and sealer of a hall where they do not matter: nothing is kept, and nothing sealed
 abbrev pub bare : {K : Type 0} → TheHall K → Tables → Hall
 bare h t = hall_of h t
     (record { place = λ n. None; saves = None; next = 0 })
-    (record { genuine = λ t s. false; seals = λ p. 0; given = λ t. record { 0 = 0 }; beside = none_beside })
+    (record { genuine = λ t s. false; seals = λ p. 0; allowed = λ t s. false; beside = none_beside })
 
 -- what a call answers that has nothing to tell
 abbrev pub done_or : {V : Type 0} → Result (Unit {0}) HallFault → Answer V
@@ -73,6 +74,6 @@ abbrev pub slip_or : {V : Type 0} → Result Slip HallFault → Answer V
 slip_or (Ok s) = slip s.client s.operation
 slip_or (Err fault) = refused fault
 
--- what a call answers and leaves
+-- what a call that seals nothing answers and leaves
 abbrev pub outcome : {K V : Type 0} → Answer V → TheHall K → Tables → Shelf → Desk → Outcome V
-outcome answer h t shelf desk = record { answer = answer; hall = hall_of h t shelf desk }
+outcome answer h t shelf desk = answers answer (hall_of h t shelf desk)

@@ -1,8 +1,9 @@
 // Begin: a client starts to read, or to write a value.
-ghost use Rattle.std.specs.Prelude.{◌≡◌, Some, None};
+ghost use Rattle.std.specs.Prelude.{◌≡◌};
 ghost use Rattle.stores.specs.Saved.{Shelf};
 ghost use Rattle.model.specs.Beginning.{begin_called, new_operation};
-ghost use Rattle.register.specs.Worlds.{world_of, outcome, slip_or};
+ghost use Rattle.model.specs.Calls.{Step, begin_read, begin_write};
+ghost use Rattle.register.specs.Worlds.{world, outcome, slip_or};
 
 use crate::hall::Hall;
 use crate::parties::party_in;
@@ -39,7 +40,10 @@ impl<K: Kind> Hall<K> {
         word: Option<Word>,
         sealer: &L,
     ) -> Result<Slip, HallFault>
-        ensures { (shelf : Shelf) → outcome {V = K} (slip_or result) self.new tables.new shelf (L.Sealer.desk sealer.now) ≡ begin_called (world_of self.old tables.old shelf (L.Sealer.desk sealer.now)) number word }
+        ensures {
+            (shelf : Shelf) → outcome {V = K} (slip_or result) self.new tables.new shelf (L.desk sealer.now)
+                ≡ begin_called (world self.old tables.old shelf (L.desk sealer.now)) number word
+        }
     {
         if !self.has_its_tables(tables) {
             return Err(HallFault::WrongTables);
@@ -79,7 +83,11 @@ impl<K: Kind> Hall<K> {
         client: u64,
         sealer: &L,
     ) -> Result<Slip, HallFault>
-        ensures { (shelf : Shelf) → outcome {V = K} (slip_or result) self.new tables.new shelf (L.Sealer.desk sealer.now) ≡ begin_called (world_of self.old tables.old shelf (L.Sealer.desk sealer.now)) client None }
+        ensures {
+            (shelf : Shelf) → Step K.kind (world self.old tables.old shelf (L.desk sealer.now))
+                (begin_read client) (slip_or result)
+                (world self.new tables.new shelf (L.desk sealer.now))
+        }
     {
         self.begin::<L>(tables, client, None, sealer)
     }
@@ -92,7 +100,11 @@ impl<K: Kind> Hall<K> {
         value: K,
         sealer: &L,
     ) -> Result<Slip, HallFault>
-        ensures { (shelf : Shelf) → outcome {V = K} (slip_or result) self.new tables.new shelf (L.Sealer.desk sealer.now) ≡ begin_called (world_of self.old tables.old shelf (L.Sealer.desk sealer.now)) client (Some (K.Kind.word value)) }
+        ensures {
+            (shelf : Shelf) → Step K.kind (world self.old tables.old shelf (L.desk sealer.now))
+                (begin_write client value) (slip_or result)
+                (world self.new tables.new shelf (L.desk sealer.now))
+        }
     {
         self.begin::<L>(tables, client, Some(value.to_word()), sealer)
     }

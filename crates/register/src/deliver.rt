@@ -1,12 +1,13 @@
 // Deliver: an entry of the post is handed to a party, which makes its step.
-ghost use Rattle.std.specs.Prelude.{◌≡◌, ℕ, ◌-◌, ◌<◌, false, length, slice_index_or};
+ghost use Rattle.std.specs.Prelude.{◌≡◌, ℕ, ◌-◌, ◌<◌, ◌≤◌, false, length, slice_index_or};
 ghost use Rattle.stores.specs.Saved.{Shelf};
 ghost use Rattle.sealers.specs.Sealing.{Desk};
 ghost use Rattle.model.specs.Tables.{is_full};
-ghost use Rattle.model.specs.Halls.{no_seat, seat_of};
-ghost use Rattle.model.specs.Delivering.{client_moves, client_done, client_step_of, replica_done, replica_step_of, deliver_called};
-ghost use Rattle.model.specs.Calls.{genuine_then, text_if_stamped};
-ghost use Rattle.register.specs.Worlds.{table, bare, hall_of, world_of, outcome, done_or, stepped_or};
+ghost use Rattle.model.specs.Halls.{no_seat};
+ghost use Rattle.model.specs.Delivering.{client_moves};
+ghost use Rattle.model.specs.Calls.{Step, deliver};
+ghost use Rattle.register.specs.Stepping.{ClientDoes, ReplicaDoes};
+ghost use Rattle.register.specs.Worlds.{table, hall_of, world, done_or, stepped_or};
 
 use crate::fitting::{fits_client, fits_replica};
 use crate::hall::Hall;
@@ -59,8 +60,11 @@ impl<K: Kind> Hall<K> {
         requires time { self.old.moment < 4294967295 }
         requires within { client.number - 1 < length tables.old.seats.now }
         requires seated { seat ≡ slice_index_or tables.old.seats.now (client.number - 1) no_seat }
-        ensures change { (shelf : Shelf) (number : ℕ) → outcome {V = K} (stepped_or number result) self.new tables.new shelf (L.Sealer.desk sealer.new) ≡ client_done (client_step_of (world_of self.old tables.old shelf (L.Sealer.desk sealer.old)) K.Kind.NUMBER client entry.now) number (hall_of self.old tables.old shelf (L.Sealer.desk sealer.old)) client }
-        ensures grows { (shelf : Shelf) → (L.Sealer.desk sealer.new).genuine ≡ genuine_then (text_if_stamped K.Kind.NUMBER (seat_of (bare self.old tables.old) client.number).line (seat_of (bare self.new tables.new) client.number).line) (world_of self.old tables.old shelf (L.Sealer.desk sealer.old)) }
+        ensures {
+            (shelf : Shelf) (number : ℕ) → ClientDoes K.kind.number client entry.now number
+                (world self.old tables.old shelf (L.desk sealer.old)) (stepped_or {V = K} number result)
+                (world self.new tables.new shelf (L.desk sealer.new))
+        }
     {
         let mut line = seat.line;
         let post = client_step::<K, L>(&self.rules, client, &mut line, entry, sealer)?;
@@ -79,8 +83,11 @@ impl<K: Kind> Hall<K> {
         sealer: &L,
     ) -> Result<(), StepFault>
         requires room { is_full (table tables.old.post) ≡ false }
-        ensures change { (number : ℕ) → outcome {V = K} (stepped_or number result) self.new tables.new (S.Store.shelf store.new) (L.Sealer.desk sealer.now) ≡ replica_done (replica_step_of (world_of self.old tables.old (S.Store.shelf store.old) (L.Sealer.desk sealer.now)) K.Kind.NUMBER replica entry.now) number (hall_of self.old tables.old (S.Store.shelf store.old) (L.Sealer.desk sealer.now)) }
-        ensures seats { tables.new.seats.now ≡ tables.old.seats.now }
+        ensures {
+            (number : ℕ) → ReplicaDoes K.kind.number replica entry.now number
+                (world self.old tables.old (S.shelf store.old) (L.desk sealer.now)) (stepped_or {V = K} number result)
+                (world self.new tables.new (S.shelf store.new) (L.desk sealer.now))
+        }
     {
         let post = replica_step::<K, S, L>(&self.rules, replica, entry, store, sealer)?;
         if let Some(entry) = post {
@@ -90,7 +97,6 @@ impl<K: Kind> Hall<K> {
     }
 
     // Hands the entry of this number to the party of this number, which makes its step.
-    #[tactic(auto, using(crate::proofs::Seals::stays_unsealed))]
     pub fn deliver<S: Store, L: Sealer>(
         &mut self,
         tables: &mut Tables,
@@ -99,8 +105,11 @@ impl<K: Kind> Hall<K> {
         store: &mut S,
         sealer: &mut L,
     ) -> Result<(), HallFault>
-        ensures change { outcome {V = K} (done_or result) self.new tables.new (S.Store.shelf store.new) (L.Sealer.desk sealer.new) ≡ deliver_called (world_of self.old tables.old (S.Store.shelf store.old) (L.Sealer.desk sealer.old)) K.Kind.NUMBER number party }
-        ensures grows { (L.Sealer.desk sealer.new).genuine ≡ genuine_then (text_if_stamped K.Kind.NUMBER (seat_of (bare self.old tables.old) party).line (seat_of (bare self.new tables.new) party).line) (world_of self.old tables.old (S.Store.shelf store.old) (L.Sealer.desk sealer.old)) }
+        ensures {
+            Step K.kind (world self.old tables.old (S.shelf store.old) (L.desk sealer.old))
+                (deliver number party) (done_or result)
+                (world self.new tables.new (S.shelf store.new) (L.desk sealer.new))
+        }
     {
         if !self.has_its_tables(tables) {
             return Err(HallFault::WrongTables);

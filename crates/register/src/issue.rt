@@ -1,10 +1,7 @@
 // Issue: the source seals and posts the next configuration.
-ghost use Rattle.std.specs.Prelude.{◌≡◌};
 ghost use Rattle.stores.specs.Saved.{Shelf};
-ghost use Rattle.source.specs.Issued.{next_text};
-ghost use Rattle.model.specs.Issuing.{issue_called};
-ghost use Rattle.model.specs.Calls.{genuine_then, text_if_done};
-ghost use Rattle.register.specs.Worlds.{world_of, outcome, done_or};
+ghost use Rattle.model.specs.Calls.{Step, issue};
+ghost use Rattle.register.specs.Worlds.{world, done_or};
 
 use crate::hall::Hall;
 use crate::sets::{has_too_many_marked, is_right_set};
@@ -23,8 +20,11 @@ impl<K: Kind> Hall<K> {
         set: ReplicaSet,
         sealer: &mut L,
     ) -> Result<(), HallFault>
-        ensures change { (shelf : Shelf) → outcome {V = K} (done_or result) self.new tables.new shelf (L.Sealer.desk sealer.new) ≡ issue_called (world_of self.old tables.old shelf (L.Sealer.desk sealer.old)) set }
-        ensures grows { (shelf : Shelf) → let before = world_of self.old tables.old shelf (L.Sealer.desk sealer.old) in (L.Sealer.desk sealer.new).genuine ≡ genuine_then (text_if_done {V = K} (issue_called before set).answer (next_text self.old.source set)) before }
+        ensures {
+            (shelf : Shelf) → Step K.kind (world self.old tables.old shelf (L.desk sealer.old))
+                (issue set) (done_or result)
+                (world self.new tables.new shelf (L.desk sealer.new))
+        }
     {
         if !self.has_its_tables(tables) {
             return Err(HallFault::WrongTables);

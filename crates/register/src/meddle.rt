@@ -1,9 +1,8 @@
 // Meddle: an entry is posted in the name of a marked replica.
-ghost use Rattle.std.specs.Prelude.{◌≡◌};
 ghost use Rattle.stores.specs.Saved.{Shelf};
 ghost use Rattle.sealers.specs.Sealing.{Desk};
-ghost use Rattle.model.specs.Meddling.{meddle_called};
-ghost use Rattle.register.specs.Worlds.{world_of, outcome, done_or};
+ghost use Rattle.model.specs.Calls.{Step, meddle};
+ghost use Rattle.register.specs.Worlds.{world, done_or};
 
 use crate::hall::Hall;
 use crate::parties::party_in;
@@ -15,7 +14,11 @@ use wire::{Entry, Party};
 impl<K: Kind> Hall<K> {
     // Posts the entry in the name of the replica of this party number, if it is marked.
     pub fn meddle(&mut self, tables: &mut Tables, party: u64, entry: Entry) -> Result<(), HallFault>
-        ensures { (shelf : Shelf) (desk : Desk) → outcome {V = K} (done_or result) self.new tables.new shelf desk ≡ meddle_called (world_of self.old tables.old shelf desk) party entry }
+        ensures {
+            (shelf : Shelf) (desk : Desk) → Step K.kind (world self.old tables.old shelf desk)
+                (meddle party entry) (done_or result)
+                (world self.new tables.new shelf desk)
+        }
     {
         if !self.has_its_tables(tables) {
             return Err(HallFault::WrongTables);

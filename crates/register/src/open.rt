@@ -5,7 +5,7 @@ ghost use Rattle.model.specs.Promise.{Promised};
 ghost use Rattle.model.specs.Runs.{Opened, first_card, first_seat};
 ghost use Rattle.register.specs.Openings.{admitted, laid_out, opened, opening_with, refused_by, too_few, fewer, with_first_cards};
 ghost use Rattle.register.specs.Views.{lent, lengths_or, fault_of, Stands};
-ghost use Rattle.register.specs.Worlds.{hall_of, world_of};
+ghost use Rattle.register.specs.Worlds.{hall_of, world};
 
 use crate::hall::Hall;
 use crate::lengths::Lengths;
@@ -51,7 +51,7 @@ fn first_seat(rules: &Rules) -> Seat
 // Saves the first card of the replica of this number.
 fn save_first_card<S: Store>(rules: &Rules, number: u8, store: &mut S) -> Result<(), StoreFault>
     requires { number < 64 }
-    ensures { after result (S.Store.shelf store.new).place (S.Store.shelf store.new).saves ≡ saved (S.Store.shelf store.old) number (first_card rules.now number) }
+    ensures { after result (S.shelf store.new).place (S.shelf store.new).saves ≡ saved (S.shelf store.old) number (first_card rules.now number) }
 {
     match Replica::try_from(u64::from(number)) {
         Ok(replica) => store.save(replica, first_card(rules, replica)),
@@ -62,10 +62,10 @@ fn save_first_card<S: Store>(rules: &Rules, number: u8, store: &mut S) -> Result
 // Saves the first cards of all replicas.
 fn save_first_cards<S: Store>(rules: &Rules, store: &mut S) -> Result<(), StoreFault>
     requires few { rules.now.replicas ≤ 64 }
-    requires enough { too_few (S.Store.shelf store.old).saves rules.now.replicas ≡ false }
+    requires enough { too_few (S.shelf store.old).saves rules.now.replicas ≡ false }
     ensures answer { result ≡ Ok tt }
-    ensures place { (S.Store.shelf store.new).place ≡ with_first_cards rules.now (S.Store.shelf store.old).place rules.now.replicas }
-    ensures saves { (S.Store.shelf store.new).saves ≡ fewer (S.Store.shelf store.old).saves rules.now.replicas }
+    ensures place { (S.shelf store.new).place ≡ with_first_cards rules.now (S.shelf store.old).place rules.now.replicas }
+    ensures saves { (S.shelf store.new).saves ≡ fewer (S.shelf store.old).saves rules.now.replicas }
 {
     for number in 0..rules.replicas {
         save_first_card(rules, number, store)?;
@@ -87,7 +87,7 @@ fn lay_out(rules: &Rules, tables: &mut Tables)
 impl Setup {
     // The lengths of the tables, if they and the store suffice.
     fn admits<S: Store>(&self, tables: &Tables, store: &S) -> Result<Lengths, HallFault>
-        ensures { lengths_or result ≡ admitted self.now.rules (lent tables.now) (S.Store.shelf store.now).saves }
+        ensures { lengths_or result ≡ admitted self.now.rules (lent tables.now) (S.shelf store.now).saves }
     {
         let lengths = Lengths::new(
             tables.post.capacity(),
@@ -113,11 +113,12 @@ impl Setup {
         store: &mut S,
         sealer: &L,
     ) -> Result<Hall<K>, (Setup, HallFault)>
-        ensures fault { fault_of result ≡ refused_by (admitted self.rules (lent tables.old) (S.Store.shelf store.old).saves) }
-        ensures leaves { IfOk result (λ hall. hall_of hall tables.new (S.Store.shelf store.new) (L.Sealer.desk sealer.now) ≡ opened (opening_with self.rules (K.Kind.word value)) self.marked.0 (lent tables.old) (S.Store.shelf store.old) (L.Sealer.desk sealer.now)) }
-        ensures right { IfOk result (λ hall. Opened (record { number = K.Kind.NUMBER; word = K.Kind.word; value = K.Kind.value }) value (hall_of hall tables.new (S.Store.shelf store.new) (L.Sealer.desk sealer.now))) }
-        ensures promise { IfOk result (λ hall. Promised (record { number = K.Kind.NUMBER; word = K.Kind.word; value = K.Kind.value }) value (world_of hall tables.new (S.Store.shelf store.new) (L.Sealer.desk sealer.now))) }
-        ensures stands { IfErr result (λ refused. Stands self refused.0 tables.old tables.new (S.Store.shelf store.old) (S.Store.shelf store.new)) }
+        ensures fault { fault_of result ≡ refused_by (admitted self.rules (lent tables.old) (S.shelf store.old).saves) }
+        ensures leaves { IfOk result (λ hall. hall_of hall tables.new (S.shelf store.new) (L.desk sealer.now)
+            ≡ opened (opening_with self.rules (K.kind.word value)) self.marked.0 (lent tables.old) (S.shelf store.old) (L.desk sealer.now)) }
+        ensures right { IfOk result (λ hall. Opened K.kind value (hall_of hall tables.new (S.shelf store.new) (L.desk sealer.now))) }
+        ensures promise { IfOk result (λ hall. Promised K.kind value (world hall tables.new (S.shelf store.new) (L.desk sealer.now))) }
+        ensures stands { IfErr result (λ refused. Stands self refused.0 tables.old tables.new (S.shelf store.old) (S.shelf store.new)) }
     {
         let lengths = match self.admits(tables, &*store) {
             Ok(lengths) => lengths,

@@ -3,8 +3,9 @@ ghost use Rattle.std.specs.Prelude.{◌≡◌, IfErr};
 ghost use Rattle.stores.specs.Saved.{Shelf};
 ghost use Rattle.sealers.specs.Sealing.{Desk};
 ghost use Rattle.model.specs.Delivering.{is_over};
-ghost use Rattle.model.specs.Slips.{freed, holding_slip, call_off_called, collect_called, lodge_called, redeem_called};
-ghost use Rattle.register.specs.Worlds.{bare, world_of, outcome, done_or_kept, pair_or_kept, slip_or};
+ghost use Rattle.model.specs.Calls.{Step, call_off, collect, lodge, redeem};
+ghost use Rattle.model.specs.Slips.{freed, holding_slip};
+ghost use Rattle.register.specs.Worlds.{bare, world, done_or_kept, pair_or_kept, slip_or};
 ghost use Rattle.register.specs.Seats.{its_seat, called_off, collected};
 
 use crate::hall::Hall;
@@ -71,7 +72,11 @@ impl<K: Kind> Hall<K> {
 
     // Leaves the operation unfinished for good.
     pub fn call_off(&mut self, tables: &mut Tables, slip: Slip) -> Result<(), Kept>
-        ensures change { (shelf : Shelf) (desk : Desk) → outcome {V = K} (done_or_kept result) self.new tables.new shelf desk ≡ call_off_called (world_of self.old tables.old shelf desk) slip.client slip.operation }
+        ensures change {
+            (shelf : Shelf) (desk : Desk) → Step K.kind (world self.old tables.old shelf desk)
+                (call_off slip.client slip.operation) (done_or_kept result)
+                (world self.new tables.new shelf desk)
+        }
         ensures back { IfErr result (λ kept. kept.slip ≡ slip) }
     {
         match self.called_off(tables, &slip) {
@@ -86,7 +91,7 @@ impl<K: Kind> Hall<K> {
 
     // The seat whose operation is over, and the value that it gives.
     fn collected(&self, tables: &Tables, slip: &Slip) -> Result<(Seat, K), HallFault>
-        ensures { result ≡ collected K.Kind.value (bare self.now tables.now) slip.now.client slip.now.operation }
+        ensures { result ≡ collected K.kind.value (bare self.now tables.now) slip.now.client slip.now.operation }
     {
         let seat = self.its_seat(tables, slip)?;
         if !is_over(seat.line.stage) {
@@ -98,7 +103,11 @@ impl<K: Kind> Hall<K> {
 
     // Gives the pair and the value of an operation that is over.
     pub fn collect(&mut self, tables: &mut Tables, slip: Slip) -> Result<(Pair, K), Kept>
-        ensures change { (shelf : Shelf) (desk : Desk) → outcome (pair_or_kept result) self.new tables.new shelf desk ≡ collect_called (record { number = K.Kind.NUMBER; word = K.Kind.word; value = K.Kind.value }) (world_of self.old tables.old shelf desk) slip.client slip.operation }
+        ensures change {
+            (shelf : Shelf) (desk : Desk) → Step K.kind (world self.old tables.old shelf desk)
+                (collect slip.client slip.operation) (pair_or_kept result)
+                (world self.new tables.new shelf desk)
+        }
         ensures back { IfErr result (λ kept. kept.slip ≡ slip) }
     {
         match self.collected(tables, &slip) {
@@ -113,7 +122,11 @@ impl<K: Kind> Hall<K> {
 
     // Leaves the slip with its client's seat.
     pub fn lodge(&mut self, tables: &mut Tables, slip: Slip) -> Result<(), Kept>
-        ensures change { (shelf : Shelf) (desk : Desk) → outcome {V = K} (done_or_kept result) self.new tables.new shelf desk ≡ lodge_called (world_of self.old tables.old shelf desk) slip.client slip.operation }
+        ensures change {
+            (shelf : Shelf) (desk : Desk) → Step K.kind (world self.old tables.old shelf desk)
+                (lodge slip.client slip.operation) (done_or_kept result)
+                (world self.new tables.new shelf desk)
+        }
         ensures back { IfErr result (λ kept. kept.slip ≡ slip) }
     {
         match self.its_seat(tables, &slip) {
@@ -132,7 +145,11 @@ impl<K: Kind> Hall<K> {
 
     // Takes out the slip that is lodged with the client of this number.
     pub fn redeem(&mut self, tables: &mut Tables, client: u64) -> Result<Slip, HallFault>
-        ensures { (shelf : Shelf) (desk : Desk) → outcome {V = K} (slip_or result) self.new tables.new shelf desk ≡ redeem_called (world_of self.old tables.old shelf desk) client }
+        ensures {
+            (shelf : Shelf) (desk : Desk) → Step K.kind (world self.old tables.old shelf desk)
+                (redeem client) (slip_or result)
+                (world self.new tables.new shelf desk)
+        }
     {
         if !self.has_its_tables(tables) {
             return Err(HallFault::WrongTables);

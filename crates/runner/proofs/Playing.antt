@@ -49,7 +49,7 @@ cabinet_as c none i = record { place = λ n. none n i; saves = None; next = 0 }
 opening_as : (t : Lent) (shelf : Shelf) (desk : Desk) (asked : SetUp) → t ≡ tables_for asked.clients → shelf ≡ empty_cabinet → desk.seals ≡ fresh_book.seals
     → opening_over t shelf desk asked ≡ opening asked
 opening_as t shelf desk asked tables store seals i =
-    opening_over (tables i) (store i) (record { genuine = fresh_book.genuine; seals = seals i; given = fresh_book.given; beside = fresh_book.beside }) asked
+    opening_over (tables i) (store i) (record { genuine = fresh_book.genuine; seals = seals i; allowed = fresh_book.allowed; beside = fresh_book.beside }) asked
 
 -- each party has 64 seals left in a book that has just been opened
 seals_fresh : (b : Book) → b.share ≡ 64 → b.used ≡ replicate 164 0 → length b.rows.now ≡ 164 * 64 → book_seals b ≡ fresh_book.seals

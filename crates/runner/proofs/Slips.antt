@@ -1,25 +1,30 @@
 -- A slip that a begin or a redeem has answered can be lodged, also after a call off or a collect that was refused. Assumes nothing.
-use Rattle.std.proofs.Common.{◌≡◌, ℕ, ◌-◌, ◌<◌, ◌≤◌, Bool, true, false, not, ◌&&◌, ◌||◌, eqb, leb, ltb, length, is_some, Some, None, Ok, Err, Option, Result, IfOk, sym, refl, ap, ◌∙◌, subst, arith, length-set}
-use Rattle.std.proofs.lemmas.Bool.{and_parts, and_from, eq-eqb, eqb-true, leb-true, le-leb, true≢false, false≢true, or_parts}
+use Rattle.std.proofs.Common.{◌≡◌, ℕ, ◌-◌, ◌<◌, ◌≤◌, Bool, true, false, cond, not, ◌&&◌, ◌||◌, eqb, leb, ltb, length, is_some, is_none, Some, None, Ok, Err, Option, Result, IfOk, sym, refl, ap, ◌∙◌, subst, arith, length-set}
+use Rattle.std.proofs.lemmas.Bool.{and_parts, and_from, eq-eqb, eqb-true, leb-true, le-leb, true≢false, false≢true, or_parts, not-false}
 use Rattle.std.proofs.lemmas.List.{get_or-set_same}
 use Rattle.kinds.specs.declared.word.Word.{Word}
 use Rattle.wire.specs.declared.entry.Entry.{Entry}
 use Rattle.wire.specs.declared.party.Party.{Party}
 use Rattle.wire.specs.declared.party.Party.TheVariants.{Source as TheSource, Client as AClient, Replica as AReplica}
+use Rattle.wire.specs.declared.text.Text.{Text}
 use Rattle.wire.specs.Parties.{Client}
 use Rattle.clients.specs.Lines.{is_idle}
 use Rattle.clients.specs.Steps.{reading_next}
 use Rattle.stores.specs.Saved.{Shelf}
 use Rattle.sealers.specs.Sealing.{Desk, none_beside}
+use Rattle.kinds.specs.declared.fault.KindFault.TheVariants.{NoValue}
 use Rattle.halls.specs.declared.fault.HallFault.{HallFault}
+use Rattle.halls.specs.declared.fault.HallFault.TheVariants.{NoSuch, NotItsSlip, Kind as OfKind}
 use Rattle.halls.specs.declared.operation.Operation.{Operation}
 use Rattle.halls.specs.declared.seat.Seat.{Seat}
 use Rattle.model.specs.Tables.{is_full, places, added}
-use Rattle.model.specs.Halls.{Hall, World, Kind, no_seat, seat_of, has_its_tables, party_in, with_seat, with_post, with_log}
-use Rattle.model.specs.Answers.{Answer, Outcome, done, slip, pair, refused, has_moment}
-use Rattle.model.specs.Beginning.{begin_called, begin_by, begin_done}
+use Rattle.kinds.specs.Kinds.{RecordKind}
+use Rattle.model.specs.Halls.{Hall, World, no_seat, seat_of, has_its_tables, party_in, with_seat, with_post, with_log}
+use Rattle.model.specs.Answers.{Answer, Outcome, answers, refuses, done, slip, pair, refused, has_moment}
+use Rattle.model.specs.Beginning.{begin_called, begin_by, begin_done, is_client_in}
+use Rattle.model.specs.Calls.{Step, begin_read, begin_write, call_off, collect, lodge, redeem}
 use Rattle.model.specs.Delivering.{is_over}
-use Rattle.model.specs.Slips.{is_its_slip, holding_slip, call_off_called, collect_called, collecting, lodge_called, redeem_called, redeeming}
+use Rattle.model.specs.Slips.{is_its_slip, holding_slip, collecting, redeeming}
 use Rattle.register.specs.declared.slip.Slip.{Slip}
 use Rattle.register.specs.Worlds.{slip_or}
 use Rattle.model.proofs.Ways.{way, way_in}
@@ -32,7 +37,7 @@ abbrev pub no_shelf : Shelf
 no_shelf = record { place = λ n. None; saves = None; next = 0 }
 
 abbrev pub no_desk : Desk
-no_desk = record { genuine = λ t s. false; seals = λ p. 0; given = λ t. record { 0 = 0 }; beside = none_beside }
+no_desk = record { genuine = λ t s. false; seals = λ p. 0; allowed = λ t s. false; beside = none_beside }
 
 clash : {P : Type 0} (b : Bool) → not b ≡ true → b ≡ true → P
 clash true e is = absurd (false≢true e)
@@ -58,34 +63,34 @@ operation_of (slip c k) = k
 operation_of (pair p v) = 0
 operation_of (refused f) = 0
 
-module _ {V : Type 0} (w : World) (c k : ℕ) (a : Answer V) (h' : Hall) (has : HasSlip w.hall c k) where
-  pub lodged : record { answer = a; hall = h' } ≡ lodge_called w c k → is_refusal a ≡ false
-  lodged p =
-      way (has_its_tables w.hall) (sym p)
+module _ {V : Type 0} {kind : RecordKind V} {w w' : World} {c k : ℕ} {a : Answer V} (has : HasSlip w.hall c k) where
+  pub lodged : Step kind w (lodge c k) a w' → is_refusal a ≡ false
+  lodged step =
+      way (not (has_its_tables w.hall)) (sym step.outcome)
+      (λ t q. clash _ t has.tables)
       (λ t q. way (not (is_its_slip w.hall c k)) q (λ u s. clash _ u has.its) (λ u s. ap (λ o. is_refusal o.answer) (sym s)))
-      (λ t q. absurd (true≢false (sym has.tables ∙ t)))
 
   -- a refusal leaves the hall as it was
-  pub call_off_refused : record { answer = a; hall = h' } ≡ call_off_called w c k → is_refusal a ≡ true → HasSlip h' c k
-  call_off_refused p r =
-      way (has_its_tables w.hall) (sym p)
+  pub call_off_refused : Step kind w (call_off c k) a w' → is_refusal a ≡ true → HasSlip w'.hall c k
+  call_off_refused step r =
+      way (not (has_its_tables w.hall)) (sym step.outcome)
+      (λ t q. clash _ t has.tables)
       (λ t q. way (not (is_its_slip w.hall c k)) q (λ u s. clash _ u has.its)
       (λ u s. way (is_over (seat_of w.hall c).line.stage) s (λ v z. subst (λ h. HasSlip h c k) (ap (λ o. o.hall) z) has)
       (λ v z. absurd (false≢true (ap (λ o. is_refusal o.answer) z ∙ r)))))
-      (λ t q. absurd (true≢false (sym has.tables ∙ t)))
 
-  pub collect_refused : (kind : Kind V) → record { answer = a; hall = h' } ≡ collect_called kind w c k → is_refusal a ≡ true → HasSlip h' c k
-  collect_refused kind p r =
-      way (has_its_tables w.hall) (sym p)
+  pub collect_refused : Step kind w (collect c k) a w' → is_refusal a ≡ true → HasSlip w'.hall c k
+  collect_refused step r =
+      way (not (has_its_tables w.hall)) (sym step.outcome)
+      (λ t q. clash _ t has.tables)
       (λ t q. way (not (is_its_slip w.hall c k)) q (λ u s. clash _ u has.its)
       (λ u s. way (not (is_over (seat_of w.hall c).line.stage)) s (λ v z. same z)
       (λ v z. by_value (kind.value (seat_of w.hall c).line.highest.word) z)))
-      (λ t q. absurd (true≢false (sym has.tables ∙ t)))
     where
-      same : {f : HallFault} → ◌≡◌ {A = Outcome V} (record { answer = refused f; hall = w.hall }) (record { answer = a; hall = h' }) → HasSlip h' c k
+      same : {f : HallFault} → ◌≡◌ {A = Outcome V} (refuses w.hall f) (record { answer = a; hall = w'.hall; sealed = step.sealed }) → HasSlip w'.hall c k
       same z = subst (λ h. HasSlip h c k) (ap (λ o. o.hall) z) has
 
-      by_value : (o : Option V) → collecting o w.hall c (seat_of w.hall c).line.highest ≡ record { answer = a; hall = h' } → HasSlip h' c k
+      by_value : (o : Option V) → cond (is_none o) (refuses w.hall (OfKind NoValue)) (collecting o w.hall c (seat_of w.hall c).line.highest) ≡ record { answer = a; hall = w'.hall; sealed = step.sealed } → HasSlip w'.hall c k
       by_value None z = same z
       by_value (Some v) z = absurd (false≢true (ap (λ o. is_refusal o.answer) z ∙ r))
 
@@ -144,22 +149,22 @@ grown_has h c k x op m post log has =
       its = has.its;
     }
 
-module _ {V : Type 0} (w : World) (c k : ℕ) (h' : Hall) where
-  no_slip : {f : HallFault} {P : Type 0} → ◌≡◌ {A = Outcome V} (record { answer = refused f; hall = w.hall }) (record { answer = slip c k; hall = h' }) → P
+module _ {V : Type 0} {kind : RecordKind V} {w w' : World} {c k : ℕ} where
+  no_slip : {f : HallFault} {t : Option Text} {P : Type 0} → ◌≡◌ {A = Outcome V} (refuses w.hall f) (record { answer = slip c k; hall = w'.hall; sealed = t }) → P
   no_slip z = absurd (true≢false (ap (λ o. is_refusal o.answer) z))
 
-  arrives : (d j : ℕ) (h : Hall) → ◌≡◌ {A = Outcome V} (record { answer = slip d j; hall = h }) (record { answer = slip c k; hall = h' }) → HasSlip h d j → HasSlip h' c k
+  arrives : (d j : ℕ) (h : Hall) {t : Option Text} → ◌≡◌ {A = Outcome V} (answers (slip d j) h) (record { answer = slip c k; hall = w'.hall; sealed = t }) → HasSlip h d j → HasSlip w'.hall c k
   arrives d j h z has =
       let client : d ≡ c = ap (λ o. client_of o.answer) z in
       let operation : j ≡ k = ap (λ o. operation_of o.answer) z in
-      let hall : h ≡ h' = ap (λ o. o.hall) z in
+      let hall : h ≡ w'.hall = ap (λ o. o.hall) z in
       subst (λ x. x) (λ i. HasSlip (hall i) (client i) (operation i)) has
 
-  pub redeemed : (n : ℕ) → holds_its_slip w.hall n ≡ true → ◌≡◌ {A = Outcome V} (record { answer = slip c k; hall = h' }) (redeem_called w n) → HasSlip h' c k
-  redeemed n holds p =
-      way (has_its_tables w.hall) (sym p)
-      (λ t q. way (leb 1 n && leb n w.hall.rules.clients) q (λ inside s. by_lodged t inside (seat_of w.hall n).lodged refl s) (λ u s. no_slip s))
+  pub redeemed : (n : ℕ) → holds_its_slip w.hall n ≡ true → Step kind w (redeem n) (slip c k) w' → HasSlip w'.hall c k
+  redeemed n holds step =
+      way (not (has_its_tables w.hall)) (sym step.outcome)
       (λ t q. no_slip q)
+      (λ t q. way (not (leb 1 n && leb n w.hall.rules.clients)) q (λ u s. no_slip s) (λ inside s. by_lodged (not-false _ t) (not-false _ inside) (seat_of w.hall n).lodged refl s))
     where
       held : (not (is_idle (seat_of w.hall n).line.stage) && is_at (seat_of w.hall n).lodged (seat_of w.hall n).operation) ≡ true
       held = way (ltb (n - 1) (length w.hall.seats)) holds (λ t e. e) (λ t e. absurd (false≢true e))
@@ -167,7 +172,8 @@ module _ {V : Type 0} (w : World) (c k : ℕ) (h' : Hall) where
       parts : (not (is_idle (seat_of w.hall n).line.stage) ≡ true) × (is_at (seat_of w.hall n).lodged (seat_of w.hall n).operation ≡ true)
       parts = and_parts (not (is_idle (seat_of w.hall n).line.stage)) (is_at (seat_of w.hall n).lodged (seat_of w.hall n).operation) held
 
-      by_lodged : has_its_tables w.hall ≡ true → (leb 1 n && leb n w.hall.rules.clients) ≡ true → (o : Option ℕ) → (seat_of w.hall n).lodged ≡ o → redeeming {V = V} o w.hall n ≡ record { answer = slip c k; hall = h' } → HasSlip h' c k
+      by_lodged : has_its_tables w.hall ≡ true → (leb 1 n && leb n w.hall.rules.clients) ≡ true → (o : Option ℕ) → (seat_of w.hall n).lodged ≡ o
+          → cond (is_none o) (refuses w.hall (NotItsSlip n)) (redeeming {V = V} o w.hall n) ≡ record { answer = slip c k; hall = w'.hall; sealed = step.sealed } → HasSlip w'.hall c k
       by_lodged t inside None is s = no_slip s
       by_lodged t inside (Some j) is s =
           let same : (seat_of w.hall n).operation ≡ j = sym (eqb-true j (seat_of w.hall n).operation (ap (λ o. is_at o (seat_of w.hall n).operation) (sym is) ∙ parts.1)) in
@@ -175,12 +181,12 @@ module _ {V : Type 0} (w : World) (c k : ℕ) (h' : Hall) where
           (subst (λ m. HasSlip (with_seat w.hall n (holding_slip (seat_of w.hall n) None)) n m) same
           (seat_has w.hall n (holding_slip (seat_of w.hall n) None) t inside parts.0))
 
-  pub begun_slip : (n : ℕ) (word : Option Word) → ◌≡◌ {A = Outcome V} (record { answer = slip c k; hall = h' }) (begin_called w n word) → HasSlip h' c k
-  begun_slip n word p =
-      way (has_its_tables w.hall) (sym p) (λ t q. by_party t (party_in w.hall.rules n) refl q) (λ t q. no_slip q)
+  begun_slip : (n : ℕ) (word : Option Word) {sealed : Option Text} → ◌≡◌ {A = Outcome V} (record { answer = slip c k; hall = w'.hall; sealed = sealed }) (begin_called w n word) → HasSlip w'.hall c k
+  begun_slip n word {sealed} p =
+      way (not (has_its_tables w.hall)) (sym p) (λ t q. no_slip q) (λ t q. by_party (not-false _ t) (party_in w.hall.rules n) refl q)
     where
       as_client : has_its_tables w.hall ≡ true → (client : Client) → (leb 1 client.number && leb client.number w.hall.rules.clients) ≡ true
-          → begin_by {V = V} (Some (AClient client)) client.number w.hall word ≡ record { answer = slip c k; hall = h' } → HasSlip h' c k
+          → begin_by {V = V} (Some (AClient client)) client.number w.hall word ≡ record { answer = slip c k; hall = w'.hall; sealed = sealed } → HasSlip w'.hall c k
       as_client t client inside q =
           way (not (is_idle (seat_of w.hall client.number).line.stage)) q (λ u s. no_slip s)
           (λ idle s. way (is_full w.hall.log || (is_full w.hall.post || not (has_moment w.hall))) s (λ u z. no_slip z)
@@ -197,17 +203,25 @@ module _ {V : Type 0} (w : World) (c k : ℕ) (h' : Hall) where
           (or_parts (is_full w.hall.post) (not (has_moment w.hall)) free.1).0 free.0
           (seat_has w.hall client.number next t inside refl)))))))
 
-      by_party : has_its_tables w.hall ≡ true → (o : Option Party) → party_in w.hall.rules n ≡ o → begin_by {V = V} o n w.hall word ≡ record { answer = slip c k; hall = h' } → HasSlip h' c k
+      by_party : has_its_tables w.hall ≡ true → (o : Option Party) → party_in w.hall.rules n ≡ o
+          → cond (not (is_client_in o)) (refuses w.hall (NoSuch n)) (begin_by {V = V} o n w.hall word) ≡ record { answer = slip c k; hall = w'.hall; sealed = sealed } → HasSlip w'.hall c k
       by_party t None is q = no_slip q
       by_party t (Some TheSource) is q = no_slip q
       by_party t (Some (AReplica r)) is q = no_slip q
       by_party t (Some (AClient client)) is q =
           let found = client_in w.hall.rules n client is in
           as_client t client (and_from (leb 1 client.number) (leb client.number w.hall.rules.clients) (le-leb 1 client.number (omega (arith, found.low, found.number))) (le-leb client.number w.hall.rules.clients (omega (arith, found.high, found.number))))
-          (subst (λ m. begin_by {V = V} (Some (AClient client)) m w.hall word ≡ record { answer = slip c k; hall = h' }) (sym found.number) q)
+          (subst (λ m. begin_by {V = V} (Some (AClient client)) m w.hall word ≡ record { answer = slip c k; hall = w'.hall; sealed = sealed }) (sym found.number) q)
+
+  -- what a begin has answered
+  pub read_slip : (n : ℕ) → Step kind w (begin_read n) (slip c k) w' → HasSlip w'.hall c k
+  read_slip n step = begun_slip n None step.outcome
+
+  pub write_slip : (n : ℕ) (v : V) → Step kind w (begin_write n v) (slip c k) w' → HasSlip w'.hall c k
+  write_slip n v step = begun_slip n (Some (kind.word v)) step.outcome
 
 -- what is redeemed once it was looked at
-pub redeemed_if : {V : Type 0} (w : World) (n : ℕ) (r : Result Slip HallFault) (h : Hall) → holds_its_slip w.hall n ≡ true
-    → record { answer = slip_or {V = V} r; hall = h } ≡ redeem_called w n → IfOk r (λ s. HasSlip h s.client s.operation)
-redeemed_if {V} w n (Ok s) h holds p = redeemed {V = V} w s.client s.operation h n holds p
-redeemed_if w n (Err f) h holds p = tt
+pub redeemed_if : {V : Type 0} {kind : RecordKind V} {w w' : World} (n : ℕ) (r : Result Slip HallFault) → holds_its_slip w.hall n ≡ true
+    → Step kind w (redeem n) (slip_or r) w' → IfOk r (λ s. HasSlip w'.hall s.client s.operation)
+redeemed_if n (Ok s) holds step = redeemed n holds step
+redeemed_if n (Err f) holds step = tt

@@ -1,5 +1,5 @@
 -- The hall that a set-up asks for, as it is opened for a script.
-use Rattle.std.specs.Prelude.{ℕ, zero, suc, ◌+◌, ◌*◌, min, false, cond, [], replicate, is_some, Some, None, Ok, Err, Option, Result}
+use Rattle.std.specs.Prelude.{ℕ, zero, suc, ◌+◌, ◌*◌, min, false, cond, [], replicate, is_some, Some, None, Ok, Err, Option, Result, ◌==◌}
 use Rattle.kinds.specs.declared.bin_weight.BinWeight.{BinWeight}
 use Rattle.kinds.specs.declared.fault.KindFault.TheVariants.{NoValue}
 use Rattle.kinds.specs.BinWeights.{weight, weight_word}
@@ -57,7 +57,7 @@ abbrev pub fresh_book : Desk
 fresh_book = record {
   genuine = λ text seal. false;
   seals = λ party. cond (is_some (party_of party)) 64 0;
-  given = λ text. record { 0 = text.party * 64 };
+  allowed = λ text seal. seal.0 == text.party * 64;
   beside = none_beside;
 }
 

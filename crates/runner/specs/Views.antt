@@ -10,7 +10,7 @@ use Rattle.model.specs.Halls.{World}
 use Rattle.model.specs.Answers.{slip}
 use Rattle.model.specs.Calls.{Call, redeem, lodge}
 use Rattle.register.specs.declared.slip.Slip.{Slip}
-use Rattle.register.specs.Worlds.{world_of}
+use Rattle.register.specs.Worlds.{world as world_of}
 use Rattle.runner.specs.declared.fault.ScriptFault.{ScriptFault}
 use Rattle.runner.specs.declared.fault.ScriptFault.TheVariants.{Hall}
 use Rattle.runner.specs.declared.running.Running.{Running}

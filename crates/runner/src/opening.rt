@@ -3,7 +3,7 @@ ghost use Rattle.std.specs.Prelude.{◌≡◌, IfOk};
 ghost use Rattle.stores.specs.Cabinets.{cabinet_shelf};
 ghost use Rattle.sealers.specs.Books.{book_desk};
 ghost use Rattle.register.specs.Views.{settings, lent};
-ghost use Rattle.register.specs.Worlds.{world_of};
+ghost use Rattle.register.specs.Worlds.{world};
 ghost use Rattle.runner.specs.Openings.{marks, opening_over};
 ghost use Rattle.runner.specs.Opened.{settings_if, hall_or};
 ghost use Rattle.runner.specs.Outputs.{PromisedFor};
@@ -37,7 +37,7 @@ pub fn open(
     sealer: &Book,
 ) -> Result<Hall<BinWeight>, ScriptFault>
     ensures answer { hall_or result tables.new (cabinet_shelf store.new) (book_desk sealer.now) ≡ opening_over (lent tables.old) (cabinet_shelf store.old) (book_desk sealer.now) asked }
-    ensures promise { IfOk result (λ hall. PromisedFor asked (world_of hall tables.new (cabinet_shelf store.new) (book_desk sealer.now))) }
+    ensures promise { IfOk result (λ hall. PromisedFor asked (world hall tables.new (cabinet_shelf store.new) (book_desk sealer.now))) }
 {
     let value = BinWeight::new(asked.grams, asked.lot)?;
     let mut setup = Setup::new(asked.faults, asked.replicas, asked.clients, asked.set)?;

@@ -29,15 +29,15 @@ unfolding member inserted lib.Count.ones
 called_off_answers = record { answered = refl; log = refl }
 
 -- nothing is ever collected by the slip of the write
-write_open : all_from (is_open bin_weights (calls_of script) start 1 0) 0 26 ≡ true
+write_open : all_from (is_open bin_weights (calls_of script) start (λ t s. refl) 1 0) 0 26 ≡ true
 unfolding member inserted lib.Count.ones
 write_open = refl
 
-the_read : Operation (run_of bin_weights (calls_of script) start) 9 2 1
+the_read : Operation (run_of bin_weights (calls_of script) start (λ t s. refl)) 9 2 1
 unfolding member inserted lib.Count.ones
 the_read = a_read (omega arith) refl refl
 
-read_open : all_from (is_open bin_weights (calls_of script) start 2 1) 0 23 ≡ true
+read_open : all_from (is_open bin_weights (calls_of script) start (λ t s. refl) 2 1) 0 23 ≡ true
 unfolding member inserted lib.Count.ones
 read_open = refl
 
@@ -60,24 +60,24 @@ members P none one two (suc (suc zero)) e = two
 members P none one two (suc (suc (suc q))) e = absurd (omega (arith, member_below 3 7 (suc (suc (suc q))) (omega arith) e))
 
 over : (position number q : ℕ)
-    → HandsOver bin_weights (calls_of script) start position number 2 q (ack_entry (100 + q) (write_entry 2 2 0 new_pair))
-    → position < 25 → Counts bin_weights (calls_of script) start 25 2 2 q
-over position number q facts before = counts bin_weights (calls_of script) start 25 q 2 2 0 position number new_pair before facts
+    → HandsOver bin_weights (calls_of script) start (λ t s. refl) position number 2 q (ack_entry (100 + q) (write_entry 2 2 0 new_pair))
+    → position < 25 → Counts bin_weights (calls_of script) start (λ t s. refl) 25 2 2 q
+over position number q facts before = counts bin_weights (calls_of script) start (λ t s. refl) 25 q 2 2 0 position number new_pair before facts
 
 -- entry 14 of replica 0, entry 11 of replica 1 when it comes again, and entry 12 of replica 2
-enough_answers : Enough (run_of bin_weights (calls_of script) start) 25 2 2 2
+enough_answers : Enough (run_of bin_weights (calls_of script) start (λ t s. refl)) 25 2 2 2
 unfolding member inserted lib.Count.ones
-enough_answers = enough bin_weights (calls_of script) start 25 2 2 7 (omega arith)
-    (members (Counts bin_weights (calls_of script) start 25 2 2)
+enough_answers = enough bin_weights (calls_of script) start (λ t s. refl) 25 2 2 7 (omega arith)
+    (members (Counts bin_weights (calls_of script) start (λ t s. refl) 25 2 2)
     (over 24 14 0 (record { call = refl; entry = refl; posted = refl; room = refl; unmarked = refl }) (omega arith))
     (over 21 11 1 (record { call = refl; entry = refl; posted = refl; room = refl; unmarked = refl }) (omega arith))
     (over 22 12 2 (record { call = refl; entry = refl; posted = refl; room = refl; unmarked = refl }) (omega arith)))
 
-late_only : all_from (is_only bin_weights (calls_of script) start 0 2 2 24) 0 26 ≡ true
+late_only : all_from (is_only bin_weights (calls_of script) start (λ t s. refl) 0 2 2 24) 0 26 ≡ true
 unfolding member inserted lib.Count.ones
 late_only = refl
 
-refused_count : RefusedCount (run_of bin_weights (calls_of script) start)
+refused_count : RefusedCount (run_of bin_weights (calls_of script) start (λ t s. refl))
 unfolding member inserted lib.Count.ones enough_answers enough members over counts
 refused_count = record {
   client = 2;
@@ -93,27 +93,27 @@ refused_count = record {
   late_in = refl;
   late_why = Step 14 (ByClient (Objects client_2 NotAwaited));
   late_refused = refl;
-  late_once = once bin_weights (calls_of script) start 26 0 2 2 24 late_only;
+  late_once = once bin_weights (calls_of script) start (λ t s. refl) 26 0 2 2 24 late_only;
 }
 
-gives : Gives (run_of bin_weights (calls_of script) start) 9 25 new_weight
+gives : Gives (run_of bin_weights (calls_of script) start (λ t s. refl)) 9 25 new_weight
 gives = record { client = 2; place = 1; operation = the_read; within = omega arith; answers = still_collected }
 
 -- the read gives what only that call writes
 stands : (front back : List ℕ)
-    → InOrder (run_of bin_weights (calls_of script) start) opening_weight (front ++ (9 ∷ back)) → 0 ∈ front
+    → InOrder (run_of bin_weights (calls_of script) start (λ t s. refl)) opening_weight (front ++ (9 ∷ back)) → 0 ∈ front
 stands front back order =
     ⊎_elim
     (λ written. written)
     (λ unwritten. absurd (heavier (order.reads front back 9 25 new_weight refl refl gives ∙ unwritten)))
-    (written_or_not bin_weights (calls_of script) start 0 refl opening_weight front)
+    (written_or_not bin_weights (calls_of script) start (λ t s. refl) 0 refl opening_weight front)
 
 pub called_off_run : CalledOffRun bin_weights start (calls_of script)
 unfolding member inserted lib.Count.ones
 called_off_run = record {
   opening = opening_weight;
   opened = opened 4 2 8 (omega arith) (omega arith) refl refl refl;
-  made = every_list bin_weights start (λ t s. refl) refl (calls_of script);
+  made = every_list bin_weights start (λ t s. refl) (λ t s. refl) refl (calls_of script);
   value = new_weight;
   new = heavier;
   write = 0;
@@ -133,14 +133,14 @@ called_off_run = record {
   half_done = omega arith;
   calls_off = refl;
   called_off = refl;
-  unfinished = never bin_weights (calls_of script) start 1 0 0 refl write_open;
+  unfinished = never bin_weights (calls_of script) start (λ t s. refl) 1 0 0 refl write_open;
   read = 9;
   reader = 2;
   other_client = λ same. omega (arith, same);
   reads = refl;
   later = omega arith;
   read_done = 23;
-  read_ends = ended bin_weights (calls_of script) start 2 1 9 23 new_weight the_read (omega arith) read_open read_collected;
+  read_ends = ended bin_weights (calls_of script) start (λ t s. refl) 2 1 9 23 new_weight the_read (omega arith) read_open read_collected;
   collect = 25;
   within = omega arith;
   gives = gives;

@@ -6,12 +6,13 @@ use Rattle.wire.specs.declared.pair.Pair.{Pair}
 use Rattle.wire.specs.Sets.{member}
 use Rattle.rules.specs.Posts.{ack_entry, write_entry}
 use Rattle.model.specs.Tables.{is_full}
-use Rattle.model.specs.Halls.{World, Kind}
+use Rattle.kinds.specs.Kinds.{RecordKind}
+use Rattle.model.specs.Halls.{World}
 use Rattle.model.specs.Calls.{Call, issue, begin_read, begin_write, deliver, call_off, collect, lodge, redeem, meddle}
 use Rattle.model.specs.Delivering.{entry_of}
 use Rattle.model.specs.Response.{Handed, Enough, AnswersTo}
 use Rattle.model.specs.Response.AnswersTo.{to_read, to_write}
-use Rattle.worked_runs.specs.Lists.{call_at, world_at}
+use Rattle.worked_runs.specs.Lists.{call_at, world_at, AnySeal}
 use Rattle.worked_runs.proofs.Lists.{run_of}
 use Rattle.worked_runs.proofs.Tests.{all_from, each}
 
@@ -36,7 +37,7 @@ answer_kind : (asked k : ℕ) → asked ≡ 2 → AnswersTo asked k → k ≡ 5
 answer_kind asked k is to_read = absurd (omega (arith, is))
 answer_kind asked k is to_write = refl
 
-module _ {V : Type 0} (kind : Kind V) (calls : List (Call V)) (start : World) where
+module _ {V : Type 0} (kind : RecordKind V) (calls : List (Call V)) (start : World) (any : AnySeal start) where
   -- the call at this position hands client c the entry e, of this number, of replica q, which is not marked,
   -- while the post has a free place
   pub record HandsOver (position number c q : ℕ) (e : Entry) : Type 0 where
@@ -44,18 +45,16 @@ module _ {V : Type 0} (kind : Kind V) (calls : List (Call V)) (start : World) wh
     pub entry : entry_of (world_at kind calls start position).hall number ≡ e
     pub posted : nat_lt number (length (world_at kind calls start position).hall.post.list) ≡ true
     pub room : is_full (world_at kind calls start position).hall.post ≡ false
-    pub unmarked : member start.hall.marked q ≡ false
+    pub unmarked : member (world_at kind calls start position).hall.marked q ≡ false
 
   -- before position i the answer of replica q to the WRITE of client c in round r counts as handed over
   pub record Counts (i c r q : ℕ) : Type 0 where
-    pub unmarked : member start.hall.marked q ≡ false
-    pub handed : Handed (run_of kind calls start) i q c r 2
+    pub handed : Handed (run_of kind calls start any) i q c r 2
 
   unfoldable pub counts : (i q c r epoch position number : ℕ) (p : Pair) → position < i
       → HandsOver position number c q (ack_entry (100 + q) (write_entry c r epoch p))
       → Counts i c r q
   counts i q c r epoch position number p before over = record {
-    unmarked = over.unmarked;
     handed = record {
       position = position;
       earlier = before;
@@ -66,6 +65,7 @@ module _ {V : Type 0} (kind : Kind V) (calls : List (Call V)) (start : World) wh
       addressee = ap (λ e. e.addressee) over.entry;
       round = ap (λ e. e.round) over.entry;
       answers = subst (AnswersTo 2) (sym (ap (λ e. e.kind) over.entry)) to_write;
+      unmarked = over.unmarked;
       room = over.room;
     };
   }
@@ -73,11 +73,10 @@ module _ {V : Type 0} (kind : Kind V) (calls : List (Call V)) (start : World) wh
   -- the answers of this set count
   unfoldable pub enough : (i c r set : ℕ) → 2 * start.hall.rules.faults + 1 ≤ count_ones set
       → ((q : ℕ) → member set q ≡ true → Counts i c r q)
-      → Enough (run_of kind calls start) i c r 2
+      → Enough (run_of kind calls start any) i c r 2
   enough i c r set large each_counts = record {
     set = set;
     large = large;
-    unmarked = λ q e. (each_counts q e).unmarked;
     handed = λ q e. (each_counts q e).handed;
   }
 
@@ -90,7 +89,7 @@ module _ {V : Type 0} (kind : Kind V) (calls : List (Call V)) (start : World) wh
   abbrev pub is_only : (q c r only p : ℕ) → Bool
   is_only q c r only p = not (is_handed q c r p) || eqb p only
 
-  is_so : (i q c r : ℕ) (h : Handed (run_of kind calls start) i q c r 2) → is_handed q c r h.position ≡ true
+  is_so : (i q c r : ℕ) (h : Handed (run_of kind calls start any) i q c r 2) → is_handed q c r h.position ≡ true
   is_so i q c r h =
       ap (hands_to (λ n. acknowledges q r (entry_of (world_at kind calls start h.position).hall n)) c) h.call
       ∙ and_from _ _ (eq-eqb c c refl)
@@ -98,7 +97,7 @@ module _ {V : Type 0} (kind : Kind V) (calls : List (Call V)) (start : World) wh
       (and_from _ _ (eq-eqb _ _ h.round) (eq-eqb _ _ (answer_kind 2 _ refl h.answers))))
 
   pub once : (i q c r only : ℕ) → all_from (is_only q c r only) 0 i ≡ true
-      → (h : Handed (run_of kind calls start) i q c r 2) → h.position ≡ only
+      → (h : Handed (run_of kind calls start any) i q c r 2) → h.position ≡ only
   once i q c r only tried h =
       let here : is_only q c r only h.position ≡ true = each (is_only q c r only) 0 i h.position tried (omega arith) (omega (arith, h.earlier)) in
       let is : not (is_handed q c r h.position) ≡ false = not_from_true _ (is_so i q c r h) in

@@ -20,7 +20,7 @@ pub short_run : ShortRun
 unfolding member inserted lib.Count.ones
 short_run = record {
   opened = opened 4 1 0 (omega arith) (omega arith) refl refl refl;
-  made = every_list bin_weights short.start (λ t s. refl) refl (calls_of short.script);
+  made = every_list bin_weights short.start (λ t s. refl) (λ t s. refl) refl (calls_of short.script);
   answered = refl;
   log = refl;
 }
@@ -34,7 +34,7 @@ write_collected : collects bin_weights (world_at bin_weights (calls_of script) s
 unfolding member inserted lib.Count.ones
 write_collected = refl
 
-read_open : all_from (is_open bin_weights (calls_of script) start 2 1) 0 48 ≡ true
+read_open : all_from (is_open bin_weights (calls_of script) start (λ t s. refl) 2 1) 0 48 ≡ true
 unfolding member inserted lib.Count.ones
 read_open = refl
 
@@ -42,7 +42,7 @@ read_collected : collects bin_weights (world_at bin_weights (calls_of script) st
 unfolding member inserted lib.Count.ones
 read_collected = refl
 
-the_read : Operation (run_of bin_weights (calls_of script) start) 42 2 1
+the_read : Operation (run_of bin_weights (calls_of script) start (λ t s. refl)) 42 2 1
 unfolding member inserted lib.Count.ones
 the_read = a_read (omega arith) refl refl
 
@@ -54,14 +54,14 @@ unfolding member inserted lib.Count.ones
 full_run = record {
   opening = opening_weight;
   opened = opened 5 2 8 (omega arith) (omega arith) refl refl refl;
-  made = every_list bin_weights start (λ t s. refl) refl (calls_of script);
+  made = every_list bin_weights start (λ t s. refl) (λ t s. refl) refl (calls_of script);
   value = new_weight;
   new = heavier;
   write = 0;
   writer = 1;
   writes = refl;
   written = 39;
-  write_ends = ended bin_weights (calls_of script) start 1 0 0 39 new_weight the_write (omega arith) write_open write_collected;
+  write_ends = ended bin_weights (calls_of script) start (λ t s. refl) 1 0 0 39 new_weight the_write (omega arith) write_open write_collected;
   pair = new_pair;
   its_word = refl;
   its_writer = refl;
@@ -90,5 +90,5 @@ full_run = record {
   reads = refl;
   later = omega arith;
   read_done = 48;
-  read_ends = ended bin_weights (calls_of script) start 2 1 42 48 new_weight the_read (omega arith) read_open read_collected;
+  read_ends = ended bin_weights (calls_of script) start (λ t s. refl) 2 1 42 48 new_weight the_read (omega arith) read_open read_collected;
 }

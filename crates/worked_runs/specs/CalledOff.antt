@@ -5,7 +5,8 @@ use Rattle.orders.specs.Order.{◌∈◌}
 use Rattle.wire.specs.declared.pair.Pair.{Pair}
 use Rattle.wire.specs.Sets.{member}
 use Rattle.halls.specs.declared.fault.HallFault.{HallFault}
-use Rattle.model.specs.Halls.{World, Kind}
+use Rattle.kinds.specs.Kinds.{RecordKind}
+use Rattle.model.specs.Halls.{World}
 use Rattle.model.specs.Answers.{done, slip, pair, refused}
 use Rattle.model.specs.Calls.{Call, begin_read, begin_write, deliver, call_off}
 use Rattle.model.specs.Delivering.{entry_of}
@@ -16,7 +17,7 @@ use Rattle.worked_runs.specs.Lists.{RunOf}
 
 -- 2f+1 unmarked replicas' answers to a round that a WRITE opened (an entry of kind 2) are handed to
 -- its client, and two of them count by deliveries that are refused
-pub record RefusedCount {V : Type 0} {kind : Kind V} {start : World}
+pub record RefusedCount {V : Type 0} {kind : RecordKind V} {start : World}
     (run : Run kind start) : Type 0 where
   pub client : ℕ
   pub round : ℕ
@@ -36,7 +37,7 @@ pub record RefusedCount {V : Type 0} {kind : Kind V} {start : World}
   pub late_once : (h : Handed run run.calls late client round 2)
       → h.position ≡ (enough.handed late late_in).position
 
-pub record CalledOffRun {V : Type 0} (kind : Kind V) (start : World)
+pub record CalledOffRun {V : Type 0} (kind : RecordKind V) (start : World)
     (list : List (Call V)) : Type 0 where
   -- it starts at an opening with this value and has these calls; no seal is forged
   pub opening : V

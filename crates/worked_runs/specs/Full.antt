@@ -5,7 +5,8 @@ use Rattle.wire.specs.declared.entry.Entry.{Entry}
 use Rattle.wire.specs.declared.pair.Pair.{Pair}
 use Rattle.wire.specs.declared.set.ReplicaSet.{ReplicaSet}
 use Rattle.wire.specs.Texts.{pair_text}
-use Rattle.model.specs.Halls.{World, Kind, seat_of}
+use Rattle.kinds.specs.Kinds.{RecordKind}
+use Rattle.model.specs.Halls.{World, seat_of}
 use Rattle.model.specs.Answers.{done}
 use Rattle.model.specs.Calls.{Call, issue, begin_read, begin_write, meddle}
 use Rattle.model.specs.Runs.{Opened}
@@ -13,7 +14,7 @@ use Rattle.model.specs.Order.{Ended}
 use Rattle.model.specs.Response.{Open, Enough}
 use Rattle.worked_runs.specs.Lists.{RunOf}
 
-pub record FullRun {V : Type 0} (kind : Kind V) (start : World) (list : List (Call V)) : Type 0 where
+pub record FullRun {V : Type 0} (kind : RecordKind V) (start : World) (list : List (Call V)) : Type 0 where
   -- it starts at an opening with this value and has these calls; no seal is genuine in it but those
   -- that are given, and so none is forged
   pub opening : V

@@ -1,5 +1,5 @@
 -- An opening with tables of a few places, for one faulty replica and the bin weight.
-use Rattle.std.specs.Prelude.{◌≡◌, ℕ, false, cond, refl, List, [], ◌∷◌, replicate, pos, is_some, Some, None, Ok, nat_lt}
+use Rattle.std.specs.Prelude.{◌≡◌, ℕ, true, false, cond, refl, List, [], ◌∷◌, replicate, pos, is_some, Some, None, Ok, nat_lt}
 use Rattle.kinds.specs.declared.bin_weight.BinWeight.{BinWeight}
 use Rattle.kinds.specs.BinWeights.{weight_word}
 use Rattle.wire.specs.declared.text.Text.{Text}
@@ -47,12 +47,12 @@ opened_hall rules marked = record {
   seals = λ party. cond (is_some (party_of party)) 64 0;
 }
 
--- no seal is genuine yet; the seal that a text would get is its number
+-- no seal is genuine yet, and a text may get any seal
 abbrev pub opened_world : Rules → ℕ → World
 opened_world rules marked = record {
   hall = opened_hall rules marked;
   genuine = λ t s. false;
-  left_open = record { next = 0; given = λ t. record { 0 = t.number }; beside = none_beside };
+  left_open = record { next = 0; allowed = λ t s. true; beside = none_beside };
 }
 
 -- the tables that are lent for it: nothing is in them, and each client has a seat

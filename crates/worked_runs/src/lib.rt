@@ -18,7 +18,7 @@ use kinds::{BinWeight, Kind};
 
 // From a world in which no seal is genuine yet every list of calls is a run, and one in which no seal is forged.
 pub fn every_list_of_calls_runs<K: Kind>()
-    ensures { EveryListRuns (record { number = K.Kind.NUMBER; word = K.Kind.word; value = K.Kind.value }) }
+    ensures { EveryListRuns K.kind }
 {}
 
 // A read of nine calls is answered, and logged, as the rules say.
@@ -29,7 +29,7 @@ pub fn short_run()
 // Fifty calls, in which a write is overtaken by a change of members and its value is read by another client,
 // are answered as the rules say, and are a run of which the promise speaks.
 pub fn full_run()
-    ensures kind { bin_weights ≡ record { number = ⟦<BinWeight as Kind>⟧.NUMBER; word = ⟦<BinWeight as Kind>⟧.word; value = ⟦<BinWeight as Kind>⟧.value } }
+    ensures kind { bin_weights ≡ ⟦<BinWeight as Kind>⟧.kind }
     ensures answers { FullAnswers }
     ensures run { FullRun bin_weights start (calls_of script) }
 {}

@@ -3,4 +3,4 @@ use Rattle.drive_c.proofs.Counting.{counted}
 use Rattle.drive_c.proofs.driven.Driven.deliver.Goals as goal
 
 pub returns-clause-call : goal.returns-clause-call
-returns-clause-call g c = counted c.deliver-answer.result c.is_ok-done.result _ _ c.is_ok-done.ensures.value c.deliver-answer.ensures.change
+returns-clause-call g c = counted c.deliver-answer.result c.is_ok-done.result c.is_ok-done.ensures.value c.deliver-answer.ensures

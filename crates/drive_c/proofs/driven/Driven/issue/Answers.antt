@@ -3,4 +3,4 @@ use Rattle.drive_c.proofs.Counting.{counted}
 use Rattle.drive_c.proofs.driven.Driven.issue.Goals as goal
 
 pub returns-clause-call : goal.returns-clause-call
-returns-clause-call g c shelf = counted c.issue-answer.result c.is_ok-done.result _ _ c.is_ok-done.ensures.value (c.issue-answer.ensures.change shelf)
+returns-clause-call g c shelf = counted c.issue-answer.result c.is_ok-done.result c.is_ok-done.ensures.value (c.issue-answer.ensures shelf)

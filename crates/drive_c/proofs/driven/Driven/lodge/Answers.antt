@@ -1,10 +1,7 @@
 -- The slip is that of its client's operation, so that it is not handed back.
 use Rattle.std.proofs.lemmas.Bool.{true≢false}
-use Rattle.kinds.specs.declared.bin_weight.BinWeight.{BinWeight}
-use Rattle.register.specs.Worlds.{world_of}
 use Rattle.runner.proofs.Slips.{lodged, no_shelf, no_desk}
 use Rattle.drive_c.proofs.driven.Driven.lodge.Goals as goal
 
 pub drop-requires : goal.drop-requires
-drop-requires c =
-    absurd (true≢false (lodged {V = BinWeight} (world_of c.args.self.now.hall c.args.self.now.tables no_shelf no_desk) c.args.slip.client c.args.slip.operation _ _ c.requires (c.in-Err.ensures.change no_shelf no_desk)))
+drop-requires c = absurd (true≢false (lodged c.requires (c.in-Err.ensures.change no_shelf no_desk)))

@@ -2,7 +2,6 @@
 use Rattle.std.proofs.Common.{refl, sym, ◌∙◌}
 use Rattle.stores.specs.Cabinets.{cabinet_shelf}
 use Rattle.sealers.specs.Books.{book_desk}
-use Rattle.register.specs.Worlds.{world_of}
 use Rattle.runner.proofs.Slips.{redeemed_if}
 use Rattle.runner.proofs.Steps.{redeems, holds_none}
 use Rattle.runner.proofs.running.Running.redeem.Goals as goal
@@ -14,8 +13,8 @@ returns c =
     let desk = book_desk self.sealer in
     let holds = sym c.holds_its_slip.ensures ∙ c.if-not-holds_its_slip.false in
     record {
-      has = redeemed_if (world_of self.hall self.tables shelf desk) c.args.client c.redeem.result _ holds (c.redeem.ensures shelf desk);
-      step = redeems c.args.client c.redeem.result holds (record { step = record { outcome = c.redeem.ensures shelf desk; genuine = refl }; only = refl });
+      has = redeemed_if c.args.client c.redeem.result holds (c.redeem.ensures shelf desk);
+      step = redeems c.args.client c.redeem.result holds (record { step = c.redeem.ensures shelf desk; only = refl });
     }
 
 pub returns-then-not-holds_its_slip : goal.returns-then-not-holds_its_slip
