@@ -5,3 +5,4 @@ pub mod Handing
 pub mod Marks
 pub mod Opening
 pub mod Refusals
+pub mod Quiet
