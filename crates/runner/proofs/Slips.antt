@@ -63,7 +63,7 @@ operation_of (slip c k) = k
 operation_of (pair p v) = 0
 operation_of (refused f) = 0
 
-module _ {V : Type 0} {kind : RecordKind V} {w w' : World} {c k : ℕ} {a : Answer V} (has : HasSlip w.hall c k) where
+module _ {V : Type 0} (kind : RecordKind V) {w w' : World} {c k : ℕ} {a : Answer V} (has : HasSlip w.hall c k) where
   pub lodged : Step kind w (lodge c k) a w' → is_refusal a ≡ false
   lodged step =
       way (not (has_its_tables w.hall)) (sym step.outcome)
@@ -149,7 +149,7 @@ grown_has h c k x op m post log has =
       its = has.its;
     }
 
-module _ {V : Type 0} {kind : RecordKind V} {w w' : World} {c k : ℕ} where
+module _ {V : Type 0} (kind : RecordKind V) (w w' : World) {c k : ℕ} where
   no_slip : {f : HallFault} {t : Option Text} {P : Type 0} → ◌≡◌ {A = Outcome V} (refuses w.hall f) (record { answer = slip c k; hall = w'.hall; sealed = t }) → P
   no_slip z = absurd (true≢false (ap (λ o. is_refusal o.answer) z))
 
@@ -221,7 +221,7 @@ module _ {V : Type 0} {kind : RecordKind V} {w w' : World} {c k : ℕ} where
   write_slip n v step = begun_slip n (Some (kind.word v)) step.outcome
 
 -- what is redeemed once it was looked at
-pub redeemed_if : {V : Type 0} {kind : RecordKind V} {w w' : World} (n : ℕ) (r : Result Slip HallFault) → holds_its_slip w.hall n ≡ true
+pub redeemed_if : {V : Type 0} (kind : RecordKind V) {w w' : World} (n : ℕ) (r : Result Slip HallFault) → holds_its_slip w.hall n ≡ true
     → Step kind w (redeem n) (slip_or r) w' → IfOk r (λ s. HasSlip w'.hall s.client s.operation)
-redeemed_if n (Ok s) holds step = redeemed n holds step
-redeemed_if n (Err f) holds step = tt
+redeemed_if kind {w} {w'} n (Ok s) holds step = redeemed kind w w' n holds step
+redeemed_if kind n (Err f) holds step = tt

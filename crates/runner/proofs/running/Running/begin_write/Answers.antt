@@ -1,6 +1,7 @@
 -- The client has just begun this operation.
 use Rattle.std.proofs.Common.{refl}
 use Rattle.stores.specs.Cabinets.{cabinet_shelf}
+use Rattle.model.specs.Kinds.{bin_weights}
 use Rattle.runner.proofs.Slips.{write_slip}
 use Rattle.runner.proofs.Steps.{begins, begins_not, as_passed}
 use Rattle.runner.proofs.running.Running.begin_write.Goals as goal
@@ -8,7 +9,7 @@ use Rattle.runner.proofs.running.Running.begin_write.Goals as goal
 pub lodge-requires : goal.lodge-requires
 lodge-requires c =
     let shelf = cabinet_shelf c.args.self.now.store in
-    write_slip c.args.client c.args.value (c.in_ok-slip.ensures shelf)
+    write_slip bin_weights _ _ c.args.client c.args.value (c.in_ok-slip.ensures shelf)
 
 pub returns : goal.returns
 returns c =

@@ -6,6 +6,7 @@ use Rattle.model.specs.Calls.{collect}
 use Rattle.register.specs.Worlds.{world as world_of}
 use Rattle.runner.specs.Slips.{HasSlip}
 use Rattle.runner.specs.Plays.{stops, goes_on}
+use Rattle.model.specs.Kinds.{bin_weights}
 use Rattle.runner.specs.Views.{world, Lodges}
 use Rattle.runner.proofs.Slips.{collect_refused}
 use Rattle.runner.proofs.Steps.{spends, spends_not, as_kept, as_passed}
@@ -15,7 +16,7 @@ pub kept-requires : goal.kept-requires
 kept-requires c =
     let self = c.redeem.new.self in
     let change = c.in-Err.ensures.change (cabinet_shelf self.store) (book_desk self.sealer) in
-    let has = collect_refused c.in_ok-slip.ensures.has change refl in
+    let has = collect_refused bin_weights c.in_ok-slip.ensures.has change refl in
     subst (λ s. HasSlip (world_of c.collect.new.self c.collect.new.tables (cabinet_shelf self.store) (book_desk self.sealer)).hall s.client s.operation) (sym c.in-Err.ensures.back) has
 
 pub returns-in_err-slip : goal.returns-in_err-slip
