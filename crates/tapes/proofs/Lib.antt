@@ -1,3 +1,4 @@
 pub mod Appends
 pub mod Chunks
 pub mod Codec
+pub mod Loads

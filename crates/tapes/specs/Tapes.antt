@@ -1,6 +1,7 @@
 -- What a tape holds: whole records one behind the other, of which the last of a replica counts.
 -- Each meaning is total: none of them asks that the used part fits the bytes.
 use Rattle.std.specs.Prelude.{ℕ, ◌+◌, ◌-◌, ◌*◌, ◌/◌, ◌%◌, min, cond, not, List, ◌++◌, length, take, drop, reverse, position, find, Some, None, Ok, Err, Option, Result, ◌==◌, nat_lt}
+use Rattle.std.specs.List.{slice_range}
 use Rattle.std.specs.Option.{option_map}
 use Rattle.std.specs.Simd.{first_chunks}
 use Rattle.stores.specs.declared.card.Card.{Card}
@@ -10,9 +11,17 @@ use Rattle.stores.specs.Saved.{Shelf}
 use Rattle.tapes.specs.declared.tape.Tape.{Tape}
 use Rattle.tapes.specs.Records.{encoded, decoded, marked}
 
+-- the last of these records that is of replica n
+abbrev pub last_of : List (List ℕ) → ℕ → Option (List ℕ)
+last_of rs n = find (λ r. n == (decoded r).replica) (reverse rs)
+
 -- the card of the last of these records that is of replica n
 abbrev pub last_card : List (List ℕ) → ℕ → Option Card
-last_card rs n = option_map (λ r. (decoded r).card) (find (λ r. n == (decoded r).replica) (reverse rs))
+last_card rs n = option_map (λ r. (decoded r).card) (last_of rs n)
+
+-- the card in the 72 bytes of this record
+abbrev pub card_in : List ℕ → ℕ → Card
+card_in xs k = (decoded (slice_range xs (k * 72) (k * 72 + 72))).card
 
 -- the card of the last of the first k records that is of replica n
 abbrev pub found : List ℕ → ℕ → ℕ → Option Card

@@ -1,5 +1,5 @@
 // The record of a card on a tape: 72 bytes, each number with its lowest byte first.
-ghost use Rattle.std.specs.Prelude.{◌≡◌, ◌+◌, ◌≤◌, ◌++◌, take, drop};
+ghost use Rattle.std.specs.Prelude.{◌≡◌, ◌+◌, ◌≤◌, ◌++◌, length, take, drop};
 ghost use Rattle.tapes.specs.Records.{encoded, decoded, marked, Fitting};
 
 use kinds::Word;
@@ -11,22 +11,22 @@ pub(crate) const RECORD_SIZE: usize = 72;
 
 const MARK: [u8; 4] = *b"BIN1";
 
-fn put<const N: usize>(out: &mut [u8; RECORD_SIZE], at: usize, field: [u8; N])
-    requires { at + N ≤ 72 }
+fn put<const N: usize>(out: &mut [u8], at: usize, field: [u8; N])
+    requires { at + N ≤ length out.old }
     ensures { take (at + N) out.new ≡ take at out.old ++ field.entry }
 {
     out[at..at + N].copy_from_slice(&field);
 }
 
-// The record of this replica's card.
-pub(crate) fn record_of(replica: Replica, card: Card) -> [u8; RECORD_SIZE]
-    ensures value { result ≡ encoded replica.number card }
+// Fills these 72 bytes with the record of this replica's card.
+pub(crate) fn write_record(out: &mut [u8], replica: Replica, card: Card)
+    requires { length out.old ≡ 72 }
+    ensures value { out.new ≡ encoded replica.number card }
     ensures fits { Fitting card }
 {
-    let mut out = [0; RECORD_SIZE];
-    put(&mut out, 0, MARK);
+    put(out, 0, MARK);
     put(
-        &mut out,
+        out,
         4,
         [
             replica.number(),
@@ -35,16 +35,15 @@ pub(crate) fn record_of(replica: Replica, card: Card) -> [u8; RECORD_SIZE]
             0,
         ],
     );
-    put(&mut out, 8, card.epoch.to_le_bytes());
-    put(&mut out, 12, card.pair.stamp.count.to_le_bytes());
-    put(&mut out, 16, card.set.0.to_le_bytes());
-    put(&mut out, 24, card.seal.0.to_le_bytes());
-    put(&mut out, 32, card.previous.0.to_le_bytes());
-    put(&mut out, 40, card.previous_seal.0.to_le_bytes());
-    put(&mut out, 48, card.heard.0.to_le_bytes());
-    put(&mut out, 56, card.pair.word.0.to_le_bytes());
-    put(&mut out, 64, card.pair.seal.0.to_le_bytes());
-    out
+    put(out, 8, card.epoch.to_le_bytes());
+    put(out, 12, card.pair.stamp.count.to_le_bytes());
+    put(out, 16, card.set.0.to_le_bytes());
+    put(out, 24, card.seal.0.to_le_bytes());
+    put(out, 32, card.previous.0.to_le_bytes());
+    put(out, 40, card.previous_seal.0.to_le_bytes());
+    put(out, 48, card.heard.0.to_le_bytes());
+    put(out, 56, card.pair.word.0.to_le_bytes());
+    put(out, 64, card.pair.seal.0.to_le_bytes());
 }
 
 // Whether a record begins with its mark.
@@ -54,8 +53,8 @@ pub(crate) fn is_marked(bytes: &[u8; RECORD_SIZE]) -> bool
     bytes.starts_with(&MARK)
 }
 
-fn get<const N: usize>(bytes: &[u8; RECORD_SIZE], at: usize) -> [u8; N]
-    requires { at + N ≤ 72 }
+fn get<const N: usize>(bytes: &[u8], at: usize) -> [u8; N]
+    requires { at + N ≤ length bytes.now }
     ensures { result ≡ take N (drop at bytes.now) }
 {
     let mut field = [0; N];
@@ -63,8 +62,9 @@ fn get<const N: usize>(bytes: &[u8; RECORD_SIZE], at: usize) -> [u8; N]
     field
 }
 
-// The card of a record.
-pub(crate) fn read_card(bytes: &[u8; RECORD_SIZE]) -> Card
+// The card of a record, which has 72 bytes.
+pub(crate) fn read_card(bytes: &[u8]) -> Card
+    requires { length bytes.now ≡ 72 }
     ensures { result ≡ (decoded bytes.now).card }
 {
     let stamp = Stamp {

@@ -1,11 +1,11 @@
 // What is looked for in the records of a tape: one without its mark, and the last of a replica.
-ghost use Rattle.std.specs.Prelude.{◌≡◌, ◌==◌, not, reverse, position, find, slice_index};
-ghost use Rattle.std.specs.Option.{option_copied};
+ghost use Rattle.std.specs.Prelude.{◌≡◌, ◌<◌, length, not, position, slice_get, IfSome};
+ghost use Rattle.std.specs.Option.{option_and_then};
 ghost use Rattle.tapes.specs.Records.{marked};
-ghost use Rattle.tapes.specs.Tapes.{last_card, inspected};
+ghost use Rattle.tapes.specs.Tapes.{last_of, inspected};
 
-use crate::record::{RECORD_SIZE, is_marked, read_card};
-use stores::{Card, StoreFault};
+use crate::record::{RECORD_SIZE, is_marked};
+use stores::StoreFault;
 
 // The place of the first of these records that has no mark.
 fn first_unmarked(records: &[[u8; RECORD_SIZE]]) -> Option<usize>
@@ -14,19 +14,13 @@ fn first_unmarked(records: &[[u8; RECORD_SIZE]]) -> Option<usize>
     records.iter().position(|record| !is_marked(record))
 }
 
-// The last of these records that is of this replica.
+// The place of the last of these records that is of this replica.
 #[inline(never)]
-fn last_record(records: &[[u8; RECORD_SIZE]], number: u8) -> Option<&[u8; RECORD_SIZE]>
-    ensures { option_copied result ≡ find (λ r. number == slice_index r 4) (reverse records.now) }
+pub(crate) fn last_record(records: &[[u8; RECORD_SIZE]], number: u8) -> Option<usize>
+    ensures within { IfSome result (λ i. i < length records.now) }
+    ensures value { option_and_then (slice_get records.now) result ≡ last_of records.now number }
 {
-    records.iter().rev().find(|record| number == record[4])
-}
-
-// The card of the last of these records that is of this replica.
-pub(crate) fn find_last(records: &[[u8; RECORD_SIZE]], number: u8) -> Option<Card>
-    ensures { result ≡ last_card records.now number }
-{
-    last_record(records, number).map(read_card)
+    records.iter().rposition(|record| number == record[4])
 }
 
 // Whether the used bytes are whole records with their marks.

@@ -1,8 +1,8 @@
 // The tape: records one behind the other in bytes that the caller lends, of which the last of a replica counts.
 ghost use Rattle.std.specs.Prelude.{◌≤◌, length};
 
-use crate::record::{RECORD_SIZE, record_of};
-use crate::search::{find_last, inspect};
+use crate::record::{RECORD_SIZE, read_card, write_record};
+use crate::search::{inspect, last_record};
 use stores::{Card, Store, StoreFault};
 use wire::Replica;
 
@@ -16,10 +16,10 @@ pub struct Tape<'a> {
 }
 
 impl<'a> Tape<'a> {
-    ghost use Rattle.std.specs.Prelude.{◌≡◌, true, is_ok, IfOk};
+    ghost use Rattle.std.specs.Prelude.{◌≡◌, ◌<◌, true, is_ok, IfOk};
     ghost use Rattle.std.specs.Simd.{first_chunks};
     ghost use Rattle.tapes.specs.Records.{Fitting};
-    ghost use Rattle.tapes.specs.Tapes.{lent, whole, seen, opened, changed, appended};
+    ghost use Rattle.tapes.specs.Tapes.{lent, whole, card_in, seen, opened, changed, appended};
 
     // The tape over these bytes, of which so many are used; they stay as they are.
     pub fn open(bytes: &'a mut [u8], used: usize) -> Result<Tape<'a>, StoreFault>
@@ -39,6 +39,15 @@ impl<'a> Tape<'a> {
         records
     }
 
+    // The card in the 72 bytes of this record.
+    fn card_at(&self, place: usize) -> Card
+        requires { place < whole (lent self.now) }
+        ensures { result ≡ card_in self.now.bytes.now place }
+    {
+        let at = place * RECORD_SIZE;
+        read_card(&self.bytes[at..at + RECORD_SIZE])
+    }
+
     // Writes a record into the next 72 bytes, and into no others.
     fn append(&mut self, replica: Replica, card: Card) -> Result<(), StoreFault>
         ensures change { changed result self.new ≡ appended (lent self.old) replica.number card }
@@ -50,7 +59,7 @@ impl<'a> Tape<'a> {
             return Err(StoreFault::NoSave(records as u64));
         }
         let at = records * RECORD_SIZE;
-        self.bytes[at..at + RECORD_SIZE].copy_from_slice(&record_of(replica, card));
+        write_record(&mut self.bytes[at..at + RECORD_SIZE], replica, card);
         self.used = at + RECORD_SIZE;
         Ok(())
     }
@@ -64,7 +73,8 @@ impl Store for Tape<'_> {
     ghost shelf = { λ t. shelf_of (lent t) };
 
     fn load(&self, replica: Replica) -> Option<Card> {
-        find_last(self.records(), replica.number())
+        let place = last_record(self.records(), replica.number())?;
+        Some(self.card_at(place))
     }
 
     fn save(&mut self, replica: Replica, card: Card) -> Result<(), StoreFault>

@@ -3,7 +3,7 @@ use Rattle.std.proofs.Common.{◌≡◌, ℕ, ◌≤◌, Bool, true, false, cond
 use Rattle.std.proofs.lemmas.List.{take_all}
 use Rattle.std.specs.Int.{w32, w64, to_le_bytes, from_bool}
 use Rattle.tapes.specs.Records.{head, encoded}
-use Rattle.tapes.proofs.record.record_of.Goals as goal
+use Rattle.tapes.proofs.record.write_record.Goals as goal
 
 -- a field that was written
 field : {out known bytes : List ℕ} (front : List ℕ) → out ≡ front ++ bytes → bytes ≡ known → out ≡ front ++ known
