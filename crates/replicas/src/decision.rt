@@ -1,9 +1,8 @@
 // What a replica decides on an entry, as a function on values.
 ghost use Rattle.std.specs.Prelude.{◌≡◌};
-ghost use Rattle.rules.specs.Senders.{sender_within};
-ghost use Rattle.replicas.specs.Decisions.{decided, present, holding, entering, stocked, higher, posts, saves, on_stock_from};
+ghost use Rattle.replicas.specs.Decisions.{decided, present, holding, entering, stocked, higher, posts, saves};
 
-use rules::{Heading, Judged, Objection, Rules, configured, counted_from};
+use rules::{Heading, Judged, Objection, Rules, configured, sender_within};
 use stores::Card;
 use wire::{Configuration, Entry, EntryKind, Pair, Party, Replica, ReplicaSet};
 
@@ -89,14 +88,6 @@ fn saves(card: Card, post: Option<Entry>) -> Result<Decision, Objection>
     })
 }
 
-// STOCK that is awaited: once from each member of the previous set, with a genuine pair.
-fn stock_from(rules: &Rules, card: &Card, judged: &Judged) -> Result<Decision, Objection>
-    ensures { result ≡ on_stock_from (sender_within card.now.previous.0 judged.now.entry.sender) rules.now card.now judged.now.entry judged.now.genuine }
-{
-    let from = counted_from(card.previous, card.heard, judged.entry.sender)?;
-    saves(stocked(rules, card, from, judged.pair()?), None)
-}
-
 // What a replica with this card makes of an entry that was judged.
 #[inline(always)]
 pub fn decide(
@@ -112,7 +103,9 @@ pub fn decide(
     let answer = Heading::answering(me, &entry);
     let is_member = card.set.contains(replica);
     let is_shown = entry.configuration().set.contains(replica);
-    // Stays: one match with guards, a rule of the project: whoever reads the protocol finds the checks of a replica here, in their order; those of an awaited STOCK are in `stock_from`.
+    let from = sender_within(card.previous, entry.sender);
+    // Stays: one match with guards, a rule of the project: whoever reads the protocol finds the checks of a replica here,
+    // in their order.
     match EntryKind::try_from(entry.kind) {
         Ok(EntryKind::Read | EntryKind::Write) if entry.epoch < card.epoch => {
             posts(configured(me, EntryKind::Config, present(card)))
@@ -148,7 +141,15 @@ pub fn decide(
             if !is_member || card.ready || u64::from(entry.epoch) + 1 != u64::from(card.epoch) => {
             Err(Objection::NotAwaited)
         }
-        Ok(EntryKind::Stock) => stock_from(rules, card, judged),
+        Ok(EntryKind::Stock) if from.is_none() => Err(Objection::NotMember),
+        Ok(EntryKind::Stock) if from.is_some_and(|from| card.heard.contains(from)) => {
+            Err(Objection::AlreadyCounted)
+        }
+        Ok(EntryKind::Stock) if !genuine => Err(Objection::NotGenuine),
+        Ok(EntryKind::Stock) => Ok(Decision {
+            save: from.map(|from| stocked(rules, card, from, entry.pair())),
+            post: None,
+        }),
         Ok(EntryKind::Behind) => posts(configured(me, EntryKind::Config, present(card))),
         Ok(EntryKind::Pair | EntryKind::Ack) | Err(_) => Err(Objection::NotAwaited),
     }
