@@ -6,7 +6,8 @@ ghost use Rattle.kinds.specs.Kinds.{RecordKind};
 use crate::word::Word;
 
 pub trait Kind: Copy {
-    // The kind's own number, from 1 to 63; it begins every text that is sealed for one of its values.
+    // The kind's own number, from 1 to 63; it begins every text that is sealed for one of its values. A new kind takes a number
+    // that no other has, and joins the list of `kind_numbers` in the crate `cases`, which is proved to have none twice.
     const NUMBER: u8;
 
     ghost NUMBER: { ℕ };
