@@ -1,10 +1,23 @@
 // The published hashes of SipHash-2-4, and how many of them come out.
-ghost use Rattle.std.specs.Prelude.{◌≤◌};
+ghost use Rattle.std.specs.Prelude.{◌≡◌};
+ghost use Rattle.vectors.specs.Compared.{hashes_agreeing};
 
 use siphash::{Key, siphash};
-use std::array;
 
-// The hash of the message 00, 01, .. of each length from 0 to 63, under the key 00, 01, .. 0f.
+// The key 00, 01, .. 0f.
+const KEY: Key = Key {
+    low: 0x0706_0504_0302_0100,
+    high: 0x0f0e_0d0c_0b0a_0908,
+};
+
+// The bytes 00, 01, .. 3f, of which a message is as many as it is long.
+const MESSAGE: [u8; 64] = [
+    0, 1, 2, 3, 4, 5, 6, 7, 8, 9, 10, 11, 12, 13, 14, 15, 16, 17, 18, 19, 20, 21, 22, 23, 24, 25,
+    26, 27, 28, 29, 30, 31, 32, 33, 34, 35, 36, 37, 38, 39, 40, 41, 42, 43, 44, 45, 46, 47, 48, 49,
+    50, 51, 52, 53, 54, 55, 56, 57, 58, 59, 60, 61, 62, 63,
+];
+
+// The hash of the message 00, 01, .. of each length from 0 to 63, under that key.
 const HASHES: [u64; 64] = [
     0x726f_db47_dd0e_0e31,
     0x74f8_39c5_93dc_67fd,
@@ -74,16 +87,11 @@ const HASHES: [u64; 64] = [
 
 // How many of the published hashes are what `siphash` gives.
 pub(crate) fn hashes_that_agree() -> usize
-    ensures { result ≤ 64 }
+    ensures { result ≡ hashes_agreeing KEY MESSAGE HASHES }
 {
-    let key = Key {
-        low: 0x0706_0504_0302_0100,
-        high: 0x0f0e_0d0c_0b0a_0908,
-    };
-    let message: [u8; 64] = array::from_fn(|i| (i % 256) as u8);
     HASHES
         .iter()
         .enumerate()
-        .filter(|(length, hash)| siphash(key, &message[..*length]) == **hash)
+        .filter(|(length, hash)| siphash(KEY, &MESSAGE[..*length]) == **hash)
         .count()
 }
