@@ -12,7 +12,7 @@ use Rattle.orders.specs.Order.Origin.{the_opening as from_opening, a_write as fr
 use Rattle.orders.proofs.Theorem.{stamped_operations_have_an_order}
 use Rattle.kinds.specs.Kinds.{RecordKind}
 use Rattle.model.specs.Halls.{Hall, World, operation_of, end_of}
-use Rattle.model.specs.Order.{Operation, Ended, Gives, Finished, Writes, value_written, newer, held_after, InOrder, Linearizable}
+use Rattle.model.specs.Order.{Operation, Ended, Gives, OneValue, Finished, Writes, value_written, newer, held_after, InOrder, Linearizable}
 use Rattle.model.specs.Runs.{Lawful, Opened, Run, Unforged}
 use Rattle.model.proofs.Effects.{BeginCall, by_read, by_write}
 use Rattle.model.proofs.Events.{EndedLog, begins_slip}
@@ -347,6 +347,13 @@ module _ {V : Type 0} (kind : RecordKind V) (v : V) (start : World) (lawful : La
 
           word_same : {a b : Word} → a.0 ≡ b.0 → a ≡ b
           word_same q = λ i. record { 0 = q i }
+
+  pub one_value : OneValue run
+  one_value o i j a b first second =
+      let x = last_given o i a first in
+      let y = last_given o j b second in
+      let same = one_place first.place second.place x.logged y.logged (x.begun ∙ sym y.begun) in
+      some_same (sym x.value ∙ ap (λ k. kind.value (operation_of last k).pair.word) same ∙ y.value)
 
   pub linearizable : Linearizable run v
   linearizable = record { order = map where_begun places; in_order = in_order }

@@ -44,6 +44,10 @@ module _ {V : Type 0} {kind : RecordKind V} {start : World} (run : Run kind star
     pub within : i ≤ run.calls
     pub answers : collects kind (run.world i) client place ≡ Some v
 
+  -- whenever collect would answer the slip of an operation, it is with one value
+  abbrev pub OneValue : Type 0
+  OneValue = (o i j : ℕ) (u v : V) → Gives o i u → Gives o j v → u ≡ v
+
   -- it has ended, at some position and with some value
   pub record Finished (o : ℕ) : Type 0 where
     pub position : ℕ

@@ -2,7 +2,7 @@
 use Rattle.kinds.specs.Kinds.{RecordKind}
 use Rattle.model.specs.Halls.{World}
 use Rattle.model.specs.Runs.{Opened, Run, Unforged, OnlyGiven}
-use Rattle.model.specs.Order.{Linearizable}
+use Rattle.model.specs.Order.{Linearizable, OneValue}
 use Rattle.model.specs.Response.{Responsive}
 use Rattle.model.specs.Moments.{MomentsInOrder}
 
@@ -19,9 +19,10 @@ RoundsEnd {V = V} kind = (v : V) (start : World) → Opened kind v start.hall �
 abbrev pub LogInTime : {V : Type 0} → RecordKind V → Type 0
 LogInTime {V = V} kind = (v : V) (start : World) → Opened kind v start.hall → (run : Run kind start) → Unforged run → MomentsInOrder run
 
--- all of that, of one run from an opening with the value v
+-- all of that, of one run from an opening with the value v; and whenever an operation is collected, it has one value
 pub record Keeps {V : Type 0} {kind : RecordKind V} {start : World} (v : V) (run : Run kind start) : Type 0 where
   pub one_order : Linearizable run v
+  pub one_value : OneValue run
   pub rounds_end : Responsive run
   pub log_in_time : MomentsInOrder run
 
