@@ -43,10 +43,8 @@ pub fn client_step<K: Kind, L: Sealer>(
     entry: &Entry,
     sealer: &mut L,
 ) -> Result<Option<Entry>, ClientFault>
-    ensures {
-        ClientStep rules.now K.kind.number client entry.now line.old (L.desk sealer.old) result line.new
-            (L.desk sealer.new)
-    }
+    ensures { ClientStep rules.now K.kind.number client entry.now line.old (L.desk sealer.old) result line.new
+        (L.desk sealer.new) }
 {
     let judged = rules.judge::<K, L>(entry, sealer);
     match decide(rules, client, line, &judged) {

@@ -140,11 +140,9 @@ impl Driven<'_> {
         store: &mut S,
         sealer: &mut L,
     ) -> bool
-        ensures call {
-            Made (world self.old.hall self.old.tables (S.shelf store.old) (L.desk sealer.old))
-                (deliver entry party) result
-                (world self.new.hall self.new.tables (S.shelf store.new) (L.desk sealer.new))
-        }
+        ensures call { Made (world self.old.hall self.old.tables (S.shelf store.old) (L.desk sealer.old))
+            (deliver entry party) result
+            (world self.new.hall self.new.tables (S.shelf store.new) (L.desk sealer.new)) }
         ensures calls { self.new.tally.calls ≡ more self.old.tally.calls 1 }
         ensures refused { self.new.tally.refused ≡ more self.old.tally.refused (cond result 0 1) }
     {
@@ -158,11 +156,9 @@ impl Driven<'_> {
 
     // Issues this set, and says whether that was done.
     pub(crate) fn issue<L: Sealer>(&mut self, set: ReplicaSet, sealer: &mut L) -> bool
-        ensures call {
-            (shelf : Shelf) → Made (world self.old.hall self.old.tables shelf (L.desk sealer.old))
-                (issue set) result
-                (world self.new.hall self.new.tables shelf (L.desk sealer.new))
-        }
+        ensures call { (shelf : Shelf) → Made (world self.old.hall self.old.tables shelf (L.desk sealer.old))
+            (issue set) result
+            (world self.new.hall self.new.tables shelf (L.desk sealer.new)) }
         ensures calls { self.new.tally.calls ≡ more self.old.tally.calls 1 }
         ensures refused { self.new.tally.refused ≡ more self.old.tally.refused (cond result 0 1) }
     {
@@ -174,11 +170,9 @@ impl Driven<'_> {
 
     // Posts this entry in the name of the marked replica, and says whether that was done.
     pub(crate) fn meddle(&mut self, party: u64, entry: Entry) -> bool
-        ensures call {
-            (shelf : Shelf) (desk : Desk) → Made (world self.old.hall self.old.tables shelf desk)
-                (meddle party entry) result
-                (world self.new.hall self.new.tables shelf desk)
-        }
+        ensures call { (shelf : Shelf) (desk : Desk) → Made (world self.old.hall self.old.tables shelf desk)
+            (meddle party entry) result
+            (world self.new.hall self.new.tables shelf desk) }
         ensures calls { self.new.tally.calls ≡ more self.old.tally.calls 1 }
         ensures refused { self.new.tally.refused ≡ more self.old.tally.refused (cond result 0 1) }
     {

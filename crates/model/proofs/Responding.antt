@@ -56,7 +56,6 @@ module _ {V : Type 0} (kind : RecordKind V) (v : V) (start : World) (lawful : La
   holds : (i : ℕ) (le : i ≤ run.calls) → Holds kind.number (sealed_at kind v start lawful opened run unforged i) (run.world i)
   holds i le = holds_at kind v start lawful opened run unforged i le
 
-
   did : (j : ℕ) (lt : j < run.calls) → Effect kind (run.world j) (run.steps j lt).given (run.call j) (run.answer j) (hall_at (j + 1)) (run.steps j lt).sealed
   did j lt = effect_of kind (run.world j) (run.steps j lt).given (run.answer j) (hall_at (j + 1)) (run.steps j lt).sealed (run.call j) (sym (run.steps j lt).outcome)
 
@@ -215,133 +214,133 @@ module _ {V : Type 0} (kind : RecordKind V) (v : V) (start : World) (lawful : La
   module _ (q c r p : ℕ) (within : p < run.calls) (number asked : ℕ) (call : run.call p ≡ deliver number c) (posted : number < length (hall_at p).post.list)
       (sender : (entry_of (hall_at p) number).sender ≡ 100 + q) (addressee : (entry_of (hall_at p) number).addressee ≡ c) (round : (entry_of (hall_at p) number).round ≡ r)
       (low : 1 ≤ c) (high : c ≤ start.hall.rules.clients) (answers : AnswersTo asked (entry_of (hall_at p) number).kind) (room : is_full (hall_at p).post ≡ false) (unmarked : member (hall_at p).marked q ≡ false) where
-   le : p ≤ run.calls
-   le = omega arith
+    le : p ≤ run.calls
+    le = omega arith
 
-   here : Holds kind.number (sealed_at kind v start lawful opened run unforged p) (run.world p)
-   here = holds p le
+    here : Holds kind.number (sealed_at kind v start lawful opened run unforged p) (run.world p)
+    here = holds p le
 
-   high_there : c ≤ (hall_at p).rules.clients
-   high_there = subst (λ r. c ≤ r.clients) (sym (opening_stays kind v start lawful opened run unforged p le)) high
+    high_there : c ≤ (hall_at p).rules.clients
+    high_there = subst (λ r. c ≤ r.clients) (sym (opening_stays kind v start lawful opened run unforged p le)) high
 
-   rule : SeatRule kind.number (run.world p) c (seat_of (hall_at p) c)
-   rule = here.seats c low high_there
+    rule : SeatRule kind.number (run.world p) c (seat_of (hall_at p) c)
+    rule = here.seats c low high_there
 
-   honest : Honest (views (hall_at p)) q
-   honest = record { unmarked = unmarked }
+    honest : Honest (views (hall_at p)) q
+    honest = record { unmarked = unmarked }
 
-   client : Client
-   client = client_numbered c low (omega (arith, high, opened.clients))
+    client : Client
+    client = client_numbered c low (omega (arith, high, opened.clients))
 
-   -- the client has asked for it: its line has come to the round
-   has_asked : r ≤ (seat_of (hall_at p) c).line.round
-   has_asked = by_kind (answer_kinds answers)
-     where
-       by_kind : ((asked ≡ 1) × ((entry_of (hall_at p) number).kind ≡ 4)) ⊎ ((asked ≡ 2) × ((entry_of (hall_at p) number).kind ≡ 5)) → r ≤ (seat_of (hall_at p) c).line.round
-       by_kind (inl a) = rule.reads {e = (entry_of (hall_at p) number).epoch} (was_read here number posted sender addressee round honest a.1)
-       by_kind (inr a) = let w = was_written here number posted sender addressee round honest a.1 in rule.writes {e = (entry_of (hall_at p) number).epoch} {s = w.0} w.1
-
-   -- for the round that is open there
-   module _ (line : OpenLine p c r asked) where
-    in_round : (entry_of (hall_at p) number).round ≡ (seat_of (hall_at p) c).line.round
-    in_round = round ∙ by_line line
+    -- the client has asked for it: its line has come to the round
+    has_asked : r ≤ (seat_of (hall_at p) c).line.round
+    has_asked = by_kind (answer_kinds answers)
       where
-        by_line : OpenLine p c r asked → r ≡ (seat_of (hall_at p) c).line.round
-        by_line (reads k stage r) = r
-        by_line (writes k stage r) = r
+        by_kind : ((asked ≡ 1) × ((entry_of (hall_at p) number).kind ≡ 4)) ⊎ ((asked ≡ 2) × ((entry_of (hall_at p) number).kind ≡ 5)) → r ≤ (seat_of (hall_at p) c).line.round
+        by_kind (inl a) = rule.reads {e = (entry_of (hall_at p) number).epoch} (was_read here number posted sender addressee round honest a.1)
+        by_kind (inr a) = let w = was_written here number posted sender addressee round honest a.1 in rule.writes {e = (entry_of (hall_at p) number).epoch} {s = w.0} w.1
 
-    -- it is of the epoch of the round, and its sender a member of the client's set
-    record Member : Type 0 where
-      small : q < 64
-      inside : member (seat_of (hall_at p) c).line.configuration.set.0 q ≡ true
+    -- for the round that is open there
+    module _ (line : OpenLine p c r asked) where
+      in_round : (entry_of (hall_at p) number).round ≡ (seat_of (hall_at p) c).line.round
+      in_round = round ∙ by_line line
+        where
+          by_line : OpenLine p c r asked → r ≡ (seat_of (hall_at p) c).line.round
+          by_line (reads k stage r) = r
+          by_line (writes k stage r) = r
 
-    member_at : {e : ℕ} → (seat_of (hall_at p) c).line.configuration.epoch ≡ e → member (issued_as (hall_at p) e).set.0 q ≡ true → Member
-    member_at {e} is m =
-        let lt = subst (λ n. n < length (hall_at p).roll.list) is rule.configuration.issued in
-        record {
-          small = omega (arith, member_below (hall_at p).rules.replicas (issued_as (hall_at p) e).set.0 q (here.roll.inside e lt) m, here.sized.replicas);
-          inside = ap (λ s. member s q) (rule.configuration.set ∙ ap (λ n. (issued_as (hall_at p) n).set.0) is) ∙ m;
-        }
+      -- it is of the epoch of the round, and its sender a member of the client's set
+      record Member : Type 0 where
+        small : q < 64
+        inside : member (seat_of (hall_at p) c).line.configuration.set.0 q ≡ true
 
-    counts_by : Member → Counts (seat_of (hall_at p) c).line (seat_of (hall_at (p + 1)) c).line q
-    unfolding client
-    counts_by m = by_kind (answer_kinds answers) (line)
-      where
-        from : Replica
-        from = replica_numbered q m.small
+      member_at : {e : ℕ} → (seat_of (hall_at p) c).line.configuration.epoch ≡ e → member (issued_as (hall_at p) e).set.0 q ≡ true → Member
+      member_at {e} is m =
+          let lt = subst (λ n. n < length (hall_at p).roll.list) is rule.configuration.issued in
+          record {
+            small = omega (arith, member_below (hall_at p).rules.replicas (issued_as (hall_at p) e).set.0 q (here.roll.inside e lt) m, here.sized.replicas);
+            inside = ap (λ s. member s q) (rule.configuration.set ∙ ap (λ n. (issued_as (hall_at p) n).set.0) is) ∙ m;
+          }
 
-        sent : sender_within (seat_of (hall_at p) c).line.configuration.set.0 (entry_of (hall_at p) number).sender ≡ Some from
-        sent = sent_within _ _ q from refl sender m.inside (only_if_true _ _ from.ok)
+      counts_by : Member → Counts (seat_of (hall_at p) c).line (seat_of (hall_at (p + 1)) c).line q
+      unfolding client
+      counts_by m = by_kind (answer_kinds answers) (line)
+        where
+          from : Replica
+          from = replica_numbered q m.small
 
-        from_replica : is_replica_number (entry_of (hall_at p) number).sender ≡ true
-        from_replica = subst (λ s. is_replica_number s ≡ true) (sym sender) (and_from (leb 100 (100 + q)) (leb (100 + q) 163) (le-leb 100 (100 + q) (omega arith)) (le-leb (100 + q) 163 (omega (arith, m.small))))
+          sent : sender_within (seat_of (hall_at p) c).line.configuration.set.0 (entry_of (hall_at p) number).sender ≡ Some from
+          sent = sent_within _ _ q from refl sender m.inside (only_if_true _ _ from.ok)
 
-        addressed : (is_replica_number (entry_of (hall_at p) number).sender && eqb (entry_of (hall_at p) number).addressee client.number) ≡ true
-        addressed = and_from (is_replica_number (entry_of (hall_at p) number).sender) (eqb (entry_of (hall_at p) number).addressee client.number) from_replica (eq-eqb (entry_of (hall_at p) number).addressee client.number addressee)
+          from_replica : is_replica_number (entry_of (hall_at p) number).sender ≡ true
+          from_replica = subst (λ s. is_replica_number s ≡ true) (sym sender) (and_from (leb 100 (100 + q)) (leb (100 + q) 163) (le-leb 100 (100 + q) (omega arith)) (le-leb (100 + q) 163 (omega (arith, m.small))))
 
-        outcome : deliver_called (run.world p) (run.steps p within).given kind.number number c ≡ record { answer = run.answer p; hall = hall_at (p + 1); sealed = (run.steps p within).sealed }
-        outcome = ap (λ x. called kind (run.steps p within).given x (run.world p)) (sym call) ∙ sym (run.steps p within).outcome
+          addressed : (is_replica_number (entry_of (hall_at p) number).sender && eqb (entry_of (hall_at p) number).addressee client.number) ≡ true
+          addressed = and_from (is_replica_number (entry_of (hall_at p) number).sender) (eqb (entry_of (hall_at p) number).addressee client.number) from_replica (eq-eqb (entry_of (hall_at p) number).addressee client.number addressee)
 
-        onward : Onward (seat_of (hall_at p) c).line (seat_of (hall_at (p + 1)) c).line
-        onward = turn_onward (turn_at p c within low high)
+          outcome : deliver_called (run.world p) (run.steps p within).given kind.number number c ≡ record { answer = run.answer p; hall = hall_at (p + 1); sealed = (run.steps p within).sealed }
+          outcome = ap (λ x. called kind (run.steps p within).given x (run.world p)) (sym call) ∙ sym (run.steps p within).outcome
 
-        by_kind : ((asked ≡ 1) × ((entry_of (hall_at p) number).kind ≡ 4)) ⊎ ((asked ≡ 2) × ((entry_of (hall_at p) number).kind ≡ 5)) → OpenLine p c r asked
-            → Counts (seat_of (hall_at p) c).line (seat_of (hall_at (p + 1)) c).line q
-        by_kind (inl a) (writes k stage r) = absurd (omega (arith, a.0, k))
-        by_kind (inr a) (reads k stage r) = absurd (omega (arith, a.0, k))
-        by_kind (inl a) (reads k stage r) =
-            handed_counts kind _ (run.world p) here client high_there number posted from room
-            (ap (λ n. fits_client (kind_of n) (entry_of (hall_at p) number) client) a.1 ∙ addressed) (run.steps p within).given (run.answer p) (hall_at (p + 1)) (run.steps p within).sealed outcome q onward
-            (λ turn move. move_counts kind _ (run.world p) here client high_there number posted from sent in_round (inl a.1) move)
-            (heeded_pair kind _ (run.world p) here client high_there number posted from sent in_round a.1 stage
-            (ap (λ n. genuine_by_kind (kind_of n) (hall_at p).rules kind.number (run.world p).genuine (entry_of (hall_at p) number)) a.1
-            ∙ (here.answers number posted).genuine {q = q} {e = (entry_of (hall_at p) number).epoch} {s = stamp_number (pair_of (entry_of (hall_at p) number))} (record { sender = sender; kind = a.1; epoch = refl; stamp = refl }) honest)
-            (count_room a.1 stage))
-          where
-            count_room : (entry_of (hall_at p) number).kind ≡ 4 → (seat_of (hall_at p) c).line.stage ≡ Reading
-                → member (seat_of (hall_at p) c).line.counted.0 q ≡ false → is_quorum (hall_at p).rules (heard (seat_of (hall_at p) c).line (entry_of (hall_at p) number) from) ≡ true
-                → ltb (max (heard (seat_of (hall_at p) c).line (entry_of (hall_at p) number) from).highest.stamp.count (seat_of (hall_at p) c).line.last_count) 4294967295 ≡ true
-            count_room kind_is stage new large = lt-ltb _ 4294967295 small_enough
-              where
-                found : FoundPair kind.number (run.world p) (seat_of (hall_at p) c).operation (heard (seat_of (hall_at p) c).line (entry_of (hall_at p) number) from).highest (heard (seat_of (hall_at p) c).line (entry_of (hall_at p) number) from).agree
-                found = pair_closes here lawful.numbered (unforged_at kind v start lawful opened run unforged p le) number posted c addressee (seat_of (hall_at p) c) rule from
-                    (record {
-                      kind = kind_is;
-                      stage = stage;
-                      round = in_round;
-                      inside = sent;
-                      uncounted = new;
-                      checks = ap (λ n. genuine_by_kind (kind_of n) (hall_at p).rules kind.number (run.world p).genuine (entry_of (hall_at p) number)) kind_is
-                          ∙ (here.answers number posted).genuine {q = q} {e = (entry_of (hall_at p) number).epoch} {s = stamp_number (pair_of (entry_of (hall_at p) number))} (record { sender = sender; kind = kind_is; epoch = refl; stamp = refl }) honest;
-                    }) large
+          onward : Onward (seat_of (hall_at p) c).line (seat_of (hall_at (p + 1)) c).line
+          onward = turn_onward (turn_at p c within low high)
 
-                small_enough : max (heard (seat_of (hall_at p) c).line (entry_of (hall_at p) number) from).highest.stamp.count (seat_of (hall_at p) c).line.last_count < 4294967295
-                small_enough = omega (arith, known_low here _ found.known, rule.count_low, post_small here)
-        by_kind (inr a) (writes k stage r) =
-            handed_counts kind _ (run.world p) here client high_there number posted from room
-            (ap (λ n. fits_client (kind_of n) (entry_of (hall_at p) number) client) a.1 ∙ addressed) (run.steps p within).given (run.answer p) (hall_at (p + 1)) (run.steps p within).sealed outcome q onward
-            (λ turn move. move_counts kind _ (run.world p) here client high_there number posted from sent in_round (inr a.1) move)
-            (heeded_ack kind _ (run.world p) here client high_there number posted from sent in_round a.1 (writing stage))
-          where
-            writing : ((seat_of (hall_at p) c).line.stage ≡ Writing) ⊎ ((seat_of (hall_at p) c).line.stage ≡ WritingBack) → is_writing (seat_of (hall_at p) c).line.stage ≡ true
-            writing (inl s) = ap is_writing s
-            writing (inr s) = ap is_writing s
+          by_kind : ((asked ≡ 1) × ((entry_of (hall_at p) number).kind ≡ 4)) ⊎ ((asked ≡ 2) × ((entry_of (hall_at p) number).kind ≡ 5)) → OpenLine p c r asked
+              → Counts (seat_of (hall_at p) c).line (seat_of (hall_at (p + 1)) c).line q
+          by_kind (inl a) (writes k stage r) = absurd (omega (arith, a.0, k))
+          by_kind (inr a) (reads k stage r) = absurd (omega (arith, a.0, k))
+          by_kind (inl a) (reads k stage r) =
+              handed_counts kind _ (run.world p) here client high_there number posted from room
+              (ap (λ n. fits_client (kind_of n) (entry_of (hall_at p) number) client) a.1 ∙ addressed) (run.steps p within).given (run.answer p) (hall_at (p + 1)) (run.steps p within).sealed outcome q onward
+              (λ turn move. move_counts kind _ (run.world p) here client high_there number posted from sent in_round (inl a.1) move)
+              (heeded_pair kind _ (run.world p) here client high_there number posted from sent in_round a.1 stage
+              (ap (λ n. genuine_by_kind (kind_of n) (hall_at p).rules kind.number (run.world p).genuine (entry_of (hall_at p) number)) a.1
+              ∙ (here.answers number posted).genuine {q = q} {e = (entry_of (hall_at p) number).epoch} {s = stamp_number (pair_of (entry_of (hall_at p) number))} (record { sender = sender; kind = a.1; epoch = refl; stamp = refl }) honest)
+              (count_room a.1 stage))
+            where
+              count_room : (entry_of (hall_at p) number).kind ≡ 4 → (seat_of (hall_at p) c).line.stage ≡ Reading
+                  → member (seat_of (hall_at p) c).line.counted.0 q ≡ false → is_quorum (hall_at p).rules (heard (seat_of (hall_at p) c).line (entry_of (hall_at p) number) from) ≡ true
+                  → ltb (max (heard (seat_of (hall_at p) c).line (entry_of (hall_at p) number) from).highest.stamp.count (seat_of (hall_at p) c).line.last_count) 4294967295 ≡ true
+              count_room kind_is stage new large = lt-ltb _ 4294967295 small_enough
+                where
+                  found : FoundPair kind.number (run.world p) (seat_of (hall_at p) c).operation (heard (seat_of (hall_at p) c).line (entry_of (hall_at p) number) from).highest (heard (seat_of (hall_at p) c).line (entry_of (hall_at p) number) from).agree
+                  found = pair_closes here lawful.numbered (unforged_at kind v start lawful opened run unforged p le) number posted c addressee (seat_of (hall_at p) c) rule from
+                      (record {
+                        kind = kind_is;
+                        stage = stage;
+                        round = in_round;
+                        inside = sent;
+                        uncounted = new;
+                        checks = ap (λ n. genuine_by_kind (kind_of n) (hall_at p).rules kind.number (run.world p).genuine (entry_of (hall_at p) number)) kind_is
+                            ∙ (here.answers number posted).genuine {q = q} {e = (entry_of (hall_at p) number).epoch} {s = stamp_number (pair_of (entry_of (hall_at p) number))} (record { sender = sender; kind = kind_is; epoch = refl; stamp = refl }) honest;
+                      }) large
 
-    -- the answer is counted
-    counts : Counts (seat_of (hall_at p) c).line (seat_of (hall_at (p + 1)) c).line q
-    counts = counts_by (by_kind (answer_kinds answers) (line))
-      where
-        by_kind : ((asked ≡ 1) × ((entry_of (hall_at p) number).kind ≡ 4)) ⊎ ((asked ≡ 2) × ((entry_of (hall_at p) number).kind ≡ 5)) → OpenLine p c r asked → Member
-        by_kind (inl a) (writes k stage r) = absurd (omega (arith, a.0, k))
-        by_kind (inr a) (reads k stage r) = absurd (omega (arith, a.0, k))
-        by_kind (inl a) (reads k stage r) =
-            member_at (sym (pair_epoch here number posted sender addressee in_round honest a.1 (read_posted (in_stage rule stage).read_asked)))
-            ((here.answers number posted).pair {q = q} {e = (entry_of (hall_at p) number).epoch} {s = stamp_number (pair_of (entry_of (hall_at p) number))} (record { sender = sender; kind = a.1; epoch = refl; stamp = refl }) honest)
-        by_kind (inr a) (writes k stage r) =
-            member_at (sym (⊎_elim
-            (λ s. ack_epoch here number posted sender addressee in_round honest a.1 (in_stage {s = Writing} rule s).asked)
-            (λ s. ack_epoch here number posted sender addressee in_round honest a.1 (in_stage {s = WritingBack} rule s).asked) stage))
-            ((here.answers number posted).ack {q = q} {e = (entry_of (hall_at p) number).epoch} {c = c} {r = (seat_of (hall_at p) c).line.round} (record { sender = sender; kind = a.1; addressee = addressee; round = in_round; epoch = refl }) honest)
+                  small_enough : max (heard (seat_of (hall_at p) c).line (entry_of (hall_at p) number) from).highest.stamp.count (seat_of (hall_at p) c).line.last_count < 4294967295
+                  small_enough = omega (arith, known_low here _ found.known, rule.count_low, post_small here)
+          by_kind (inr a) (writes k stage r) =
+              handed_counts kind _ (run.world p) here client high_there number posted from room
+              (ap (λ n. fits_client (kind_of n) (entry_of (hall_at p) number) client) a.1 ∙ addressed) (run.steps p within).given (run.answer p) (hall_at (p + 1)) (run.steps p within).sealed outcome q onward
+              (λ turn move. move_counts kind _ (run.world p) here client high_there number posted from sent in_round (inr a.1) move)
+              (heeded_ack kind _ (run.world p) here client high_there number posted from sent in_round a.1 (writing stage))
+            where
+              writing : ((seat_of (hall_at p) c).line.stage ≡ Writing) ⊎ ((seat_of (hall_at p) c).line.stage ≡ WritingBack) → is_writing (seat_of (hall_at p) c).line.stage ≡ true
+              writing (inl s) = ap is_writing s
+              writing (inr s) = ap is_writing s
+
+      -- the answer is counted
+      counts : Counts (seat_of (hall_at p) c).line (seat_of (hall_at (p + 1)) c).line q
+      counts = counts_by (by_kind (answer_kinds answers) (line))
+        where
+          by_kind : ((asked ≡ 1) × ((entry_of (hall_at p) number).kind ≡ 4)) ⊎ ((asked ≡ 2) × ((entry_of (hall_at p) number).kind ≡ 5)) → OpenLine p c r asked → Member
+          by_kind (inl a) (writes k stage r) = absurd (omega (arith, a.0, k))
+          by_kind (inr a) (reads k stage r) = absurd (omega (arith, a.0, k))
+          by_kind (inl a) (reads k stage r) =
+              member_at (sym (pair_epoch here number posted sender addressee in_round honest a.1 (read_posted (in_stage rule stage).read_asked)))
+              ((here.answers number posted).pair {q = q} {e = (entry_of (hall_at p) number).epoch} {s = stamp_number (pair_of (entry_of (hall_at p) number))} (record { sender = sender; kind = a.1; epoch = refl; stamp = refl }) honest)
+          by_kind (inr a) (writes k stage r) =
+              member_at (sym (⊎_elim
+              (λ s. ack_epoch here number posted sender addressee in_round honest a.1 (in_stage {s = Writing} rule s).asked)
+              (λ s. ack_epoch here number posted sender addressee in_round honest a.1 (in_stage {s = WritingBack} rule s).asked) stage))
+              ((here.answers number posted).ack {q = q} {e = (entry_of (hall_at p) number).epoch} {c = c} {r = (seat_of (hall_at p) c).line.round} (record { sender = sender; kind = a.1; addressee = addressee; round = in_round; epoch = refl }) honest)
 
   -- who was handed over is counted in the round that is still open
   handed_counted : (i c r asked q : ℕ) → i ≤ run.calls → Open run i c r asked → Handed run i q c r asked → member (seat_of (hall_at i) c).line.counted.0 q ≡ true
@@ -357,7 +356,7 @@ module _ {V : Type 0} (kind : RecordKind V) (v : V) (start : World) (lawful : La
       let same : (seat_of (hall_at i) c).line.round ≡ (seat_of (hall_at p) c).line.round = omega (arith, line_round i c r asked le o, asked_for, whole.rounds) in
       let middle : (seat_of (hall_at i) c).line.round ≡ (seat_of (hall_at (p + 1)) c).line.round = omega (arith, same, first.rounds, rest.rounds) in
       let one = counts q c r p within h.number asked h.call h.posted h.sender h.addressee h.round seat.low seat.high h.answers h.room unmarked
-          (line_before (sym (whole.stage same seat.opens)) same (open_line i c r asked le o)) in
+      (line_before (sym (whole.stage same seat.opens)) same (open_line i c r asked le o)) in
       (rest.counted middle seat.opens).each q
       (one.here (omega (arith, same, middle)) (ap is_open (sym (rest.stage middle seat.opens)) ∙ seat.opens))
     where

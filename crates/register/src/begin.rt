@@ -40,10 +40,8 @@ impl<K: Kind> Hall<K> {
         word: Option<Word>,
         sealer: &L,
     ) -> Result<Slip, HallFault>
-        ensures {
-            (shelf : Shelf) → outcome {V = K} (slip_or result) self.new tables.new shelf (L.desk sealer.now)
-                ≡ begin_called (world self.old tables.old shelf (L.desk sealer.now)) number word
-        }
+        ensures { (shelf : Shelf) → outcome {V = K} (slip_or result) self.new tables.new shelf (L.desk sealer.now)
+            ≡ begin_called (world self.old tables.old shelf (L.desk sealer.now)) number word }
     {
         if !self.has_its_tables(tables) {
             return Err(HallFault::WrongTables);
@@ -83,11 +81,9 @@ impl<K: Kind> Hall<K> {
         client: u64,
         sealer: &L,
     ) -> Result<Slip, HallFault>
-        ensures {
-            (shelf : Shelf) → Step K.kind (world self.old tables.old shelf (L.desk sealer.now))
-                (begin_read client) (slip_or result)
-                (world self.new tables.new shelf (L.desk sealer.now))
-        }
+        ensures { (shelf : Shelf) → Step K.kind (world self.old tables.old shelf (L.desk sealer.now))
+            (begin_read client) (slip_or result)
+            (world self.new tables.new shelf (L.desk sealer.now)) }
     {
         self.begin::<L>(tables, client, None, sealer)
     }
@@ -100,11 +96,9 @@ impl<K: Kind> Hall<K> {
         value: K,
         sealer: &L,
     ) -> Result<Slip, HallFault>
-        ensures {
-            (shelf : Shelf) → Step K.kind (world self.old tables.old shelf (L.desk sealer.now))
-                (begin_write client value) (slip_or result)
-                (world self.new tables.new shelf (L.desk sealer.now))
-        }
+        ensures { (shelf : Shelf) → Step K.kind (world self.old tables.old shelf (L.desk sealer.now))
+            (begin_write client value) (slip_or result)
+            (world self.new tables.new shelf (L.desk sealer.now)) }
     {
         self.begin::<L>(tables, client, Some(value.to_word()), sealer)
     }

@@ -60,11 +60,9 @@ impl<K: Kind> Hall<K> {
         requires time { self.old.moment < 4294967295 }
         requires within { client.number - 1 < length tables.old.seats.now }
         requires seated { seat ≡ slice_index_or tables.old.seats.now (client.number - 1) no_seat }
-        ensures {
-            (shelf : Shelf) (number : ℕ) → ClientDoes K.kind.number client entry.now number
-                (world self.old tables.old shelf (L.desk sealer.old)) (stepped_or {V = K} number result)
-                (world self.new tables.new shelf (L.desk sealer.new))
-        }
+        ensures { (shelf : Shelf) (number : ℕ) → ClientDoes K.kind.number client entry.now number
+            (world self.old tables.old shelf (L.desk sealer.old)) (stepped_or {V = K} number result)
+            (world self.new tables.new shelf (L.desk sealer.new)) }
     {
         let mut line = seat.line;
         let post = client_step::<K, L>(&self.rules, client, &mut line, entry, sealer)?;
@@ -83,11 +81,9 @@ impl<K: Kind> Hall<K> {
         sealer: &L,
     ) -> Result<(), StepFault>
         requires room { is_full (table tables.old.post) ≡ false }
-        ensures {
-            (number : ℕ) → ReplicaDoes K.kind.number replica entry.now number
-                (world self.old tables.old (S.shelf store.old) (L.desk sealer.now)) (stepped_or {V = K} number result)
-                (world self.new tables.new (S.shelf store.new) (L.desk sealer.now))
-        }
+        ensures { (number : ℕ) → ReplicaDoes K.kind.number replica entry.now number
+            (world self.old tables.old (S.shelf store.old) (L.desk sealer.now)) (stepped_or {V = K} number result)
+            (world self.new tables.new (S.shelf store.new) (L.desk sealer.now)) }
     {
         let post = replica_step::<K, S, L>(&self.rules, replica, entry, store, sealer)?;
         if let Some(entry) = post {
@@ -105,11 +101,9 @@ impl<K: Kind> Hall<K> {
         store: &mut S,
         sealer: &mut L,
     ) -> Result<(), HallFault>
-        ensures {
-            Step K.kind (world self.old tables.old (S.shelf store.old) (L.desk sealer.old))
-                (deliver number party) (done_or result)
-                (world self.new tables.new (S.shelf store.new) (L.desk sealer.new))
-        }
+        ensures { Step K.kind (world self.old tables.old (S.shelf store.old) (L.desk sealer.old))
+            (deliver number party) (done_or result)
+            (world self.new tables.new (S.shelf store.new) (L.desk sealer.new)) }
     {
         if !self.has_its_tables(tables) {
             return Err(HallFault::WrongTables);

@@ -20,11 +20,9 @@ impl<K: Kind> Hall<K> {
         set: ReplicaSet,
         sealer: &mut L,
     ) -> Result<(), HallFault>
-        ensures {
-            (shelf : Shelf) → Step K.kind (world self.old tables.old shelf (L.desk sealer.old))
-                (issue set) (done_or result)
-                (world self.new tables.new shelf (L.desk sealer.new))
-        }
+        ensures { (shelf : Shelf) → Step K.kind (world self.old tables.old shelf (L.desk sealer.old))
+            (issue set) (done_or result)
+            (world self.new tables.new shelf (L.desk sealer.new)) }
     {
         if !self.has_its_tables(tables) {
             return Err(HallFault::WrongTables);

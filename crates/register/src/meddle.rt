@@ -14,11 +14,9 @@ use wire::{Entry, Party};
 impl<K: Kind> Hall<K> {
     // Posts the entry in the name of the replica of this party number, if it is marked.
     pub fn meddle(&mut self, tables: &mut Tables, party: u64, entry: Entry) -> Result<(), HallFault>
-        ensures {
-            (shelf : Shelf) (desk : Desk) → Step K.kind (world self.old tables.old shelf desk)
-                (meddle party entry) (done_or result)
-                (world self.new tables.new shelf desk)
-        }
+        ensures { (shelf : Shelf) (desk : Desk) → Step K.kind (world self.old tables.old shelf desk)
+            (meddle party entry) (done_or result)
+            (world self.new tables.new shelf desk) }
     {
         if !self.has_its_tables(tables) {
             return Err(HallFault::WrongTables);

@@ -72,11 +72,9 @@ impl<K: Kind> Hall<K> {
 
     // Leaves the operation unfinished for good.
     pub fn call_off(&mut self, tables: &mut Tables, slip: Slip) -> Result<(), Kept>
-        ensures change {
-            (shelf : Shelf) (desk : Desk) → Step K.kind (world self.old tables.old shelf desk)
-                (call_off slip.client slip.operation) (done_or_kept result)
-                (world self.new tables.new shelf desk)
-        }
+        ensures change { (shelf : Shelf) (desk : Desk) → Step K.kind (world self.old tables.old shelf desk)
+            (call_off slip.client slip.operation) (done_or_kept result)
+            (world self.new tables.new shelf desk) }
         ensures back { IfErr result (λ kept. kept.slip ≡ slip) }
     {
         match self.called_off(tables, &slip) {
@@ -103,11 +101,9 @@ impl<K: Kind> Hall<K> {
 
     // Gives the pair and the value of an operation that is over.
     pub fn collect(&mut self, tables: &mut Tables, slip: Slip) -> Result<(Pair, K), Kept>
-        ensures change {
-            (shelf : Shelf) (desk : Desk) → Step K.kind (world self.old tables.old shelf desk)
-                (collect slip.client slip.operation) (pair_or_kept result)
-                (world self.new tables.new shelf desk)
-        }
+        ensures change { (shelf : Shelf) (desk : Desk) → Step K.kind (world self.old tables.old shelf desk)
+            (collect slip.client slip.operation) (pair_or_kept result)
+            (world self.new tables.new shelf desk) }
         ensures back { IfErr result (λ kept. kept.slip ≡ slip) }
     {
         match self.collected(tables, &slip) {
@@ -122,11 +118,9 @@ impl<K: Kind> Hall<K> {
 
     // Leaves the slip with its client's seat.
     pub fn lodge(&mut self, tables: &mut Tables, slip: Slip) -> Result<(), Kept>
-        ensures change {
-            (shelf : Shelf) (desk : Desk) → Step K.kind (world self.old tables.old shelf desk)
-                (lodge slip.client slip.operation) (done_or_kept result)
-                (world self.new tables.new shelf desk)
-        }
+        ensures change { (shelf : Shelf) (desk : Desk) → Step K.kind (world self.old tables.old shelf desk)
+            (lodge slip.client slip.operation) (done_or_kept result)
+            (world self.new tables.new shelf desk) }
         ensures back { IfErr result (λ kept. kept.slip ≡ slip) }
     {
         match self.its_seat(tables, &slip) {
@@ -145,11 +139,9 @@ impl<K: Kind> Hall<K> {
 
     // Takes out the slip that is lodged with the client of this number.
     pub fn redeem(&mut self, tables: &mut Tables, client: u64) -> Result<Slip, HallFault>
-        ensures {
-            (shelf : Shelf) (desk : Desk) → Step K.kind (world self.old tables.old shelf desk)
-                (redeem client) (slip_or result)
-                (world self.new tables.new shelf desk)
-        }
+        ensures { (shelf : Shelf) (desk : Desk) → Step K.kind (world self.old tables.old shelf desk)
+            (redeem client) (slip_or result)
+            (world self.new tables.new shelf desk) }
     {
         if !self.has_its_tables(tables) {
             return Err(HallFault::WrongTables);

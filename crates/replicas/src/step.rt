@@ -19,10 +19,8 @@ pub fn replica_step<K: Kind, S: Store, L: Sealer>(
     store: &mut S,
     sealer: &L,
 ) -> Result<Option<Entry>, ReplicaFault>
-    ensures {
-        record { answer = result; place = (S.shelf store.new).place; saves = (S.shelf store.new).saves }
-            ≡ replica_stepped rules.now K.kind.number (L.desk sealer.now).genuine (S.shelf store.old) replica entry.now
-    }
+    ensures { record { answer = result; place = (S.shelf store.new).place; saves = (S.shelf store.new).saves }
+        ≡ replica_stepped rules.now K.kind.number (L.desk sealer.now).genuine (S.shelf store.old) replica entry.now }
 {
     let objects = |why| ReplicaFault::Objects(replica, why);
     let card = store.load(replica).ok_or(objects(Objection::NotMember))?;
