@@ -1,5 +1,5 @@
 -- Without a next epoch nothing is sealed.
-use Rattle.std.proofs.Common.{rules, refl, None}
+use Rattle.std.proofs.Common.{rules, None}
 use Rattle.sealers.proofs.Sealing.{nothing_sealed}
 use Rattle.source.proofs.state.Source.issue.Goals as goal
 
