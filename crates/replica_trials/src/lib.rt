@@ -1,6 +1,7 @@
 // What parties pass to each other, what replicas keep, seals and hashes, by example.
 #![tactic(auto)]
 
+mod drawn;
 #[cfg(test)]
 mod hashing;
 #[cfg(test)]
@@ -9,3 +10,5 @@ mod keeping;
 mod passing;
 #[cfg(test)]
 mod sealing;
+
+pub use drawn::{Dice, Drawn, Note};

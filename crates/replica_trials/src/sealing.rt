@@ -1,13 +1,14 @@
-// Both sealers: what they give, what they know again, and what they refuse.
-ghost use Rattle.std.specs.Prelude.{◌≡◌};
+// The sealers: what they give, what they know again, and what they refuse.
+ghost use Rattle.std.specs.Prelude.{◌≡◌, IfOk, true};
 ghost use Rattle.sealers.specs.Sealing.{checked};
 
+use crate::drawn::{Dice, Drawn, Note};
 use refusals::{Fault, Layer, Refusal};
 use sealers::{Book, KeyRow, Keyed, Sealer, SealerFault};
 use siphash::Key;
 use std::alloc::{AllocError, Global};
 use std::test::Fail;
-use wire::{Seal, Text};
+use wire::{Party, Seal, Text};
 
 // For every sealer: what it seals it knows again.
 fn sealed_and_checked<S: Sealer>(sealer: &mut S, text: Text) -> Result<bool, SealerFault>
@@ -15,6 +16,15 @@ fn sealed_and_checked<S: Sealer>(sealer: &mut S, text: Text) -> Result<bool, Sea
 {
     let seal = sealer.seal(text)?;
     Ok(sealer.check(text, seal))
+}
+
+// For every sealer: of two seals it knows each again once both are given.
+fn both_checked<S: Sealer>(sealer: &mut S, first: Text, second: Text) -> Result<bool, SealerFault>
+    ensures { IfOk result (λ known. known ≡ true) }
+{
+    let one = sealer.seal(first)?;
+    let two = sealer.seal(second)?;
+    Ok(sealer.check(first, one) && sealer.check(second, two))
 }
 
 fn text(party: u8, number: u32) -> Text {
@@ -103,5 +113,34 @@ fn keys_have_their_limits(rt: HostRuntime) -> Result<(), Fail> {
     assert!(rt; Keyed::open(keys(heap, 97, 1_000_001)?).is_err());
     assert!(rt; Keyed::open(keys(heap, 96, 1)?).is_err());
     assert!(rt; Keyed::open(keys(heap, 98, 1)?).is_err());
+    Ok(())
+}
+
+// Rolls 9 and 4 in turn.
+#[derive(Drop)]
+struct Turns {
+    nine: bool,
+}
+
+impl Dice for Turns {
+    fn roll(&mut self) -> u64 {
+        self.nine = !self.nine;
+        if self.nine { 9 } else { 4 }
+    }
+}
+
+#[test]
+fn drawn_seals_are_noted(rt: HostRuntime) -> Result<(), Fail> {
+    let mut notes = [Note::default(); 2];
+    let mut sealer = Drawn::open(Turns { nine: false }, Party::try_from(1)?, &mut notes);
+    assert_eq!(rt; sealer.check(Text::default(), Seal(0)), false);
+    assert_eq!(rt; sealer.seal(text(2, 7)), Err(SealerFault::NoSeal(2)));
+    assert_eq!(rt; both_checked(&mut sealer, text(1, 7), text(1, 8)), Ok(true));
+    assert_eq!(rt; sealer.check(text(1, 7), Seal(9)), true);
+    assert_eq!(rt; sealer.check(text(1, 8), Seal(4)), true);
+    assert_eq!(rt; sealer.check(text(1, 8), Seal(9)), false);
+    assert_eq!(rt; sealer.left(1), 0);
+    assert_eq!(rt; sealer.seal(text(1, 9)), Err(SealerFault::NoSeal(1)));
+    assert_eq!(rt; SealerFault::NoSeal(1).told().number, 8);
     Ok(())
 }
