@@ -27,7 +27,7 @@ use Rattle.quorums.proofs.Insertion.{inserted_member}
 use Rattle.halls.specs.declared.operation.Operation.{Operation}
 use Rattle.model.specs.Tables.{is_full}
 use Rattle.kinds.specs.Kinds.{RecordKind}
-use Rattle.model.specs.Halls.{Hall, World, seat_of, desk_of}
+use Rattle.model.specs.Halls.{Hall, World, seat_of}
 use Rattle.model.specs.Answers.{Answer, Outcome, done, has_moment}
 use Rattle.model.specs.Delivering.{client_moves, client_done, client_step_of, deliver_called, entry_of, fits_client}
 use Rattle.model.proofs.ClientEvents.{not_moves, stamps_line}

@@ -45,7 +45,7 @@ use Rattle.model.proofs.Invariants.{views, history, issued_as, stamp_number, Sea
 use Rattle.model.proofs.Parties.{client_numbered, replica_numbered}
 use Rattle.model.proofs.RunKeeps.{sealed_at, holds_at, unforged_at}
 use Rattle.model.proofs.SeatTurns.{begun_seat, Onward, onward_same, onward_trans, SeatTurn, seat_turn, turn_onward, Staying, stays_open, is_ended, is_called_off, turn_staying}
-use Rattle.model.proofs.Trace.{slip_answered, slips_there, grows, collects_over, ended_valued, opening_stays}
+use Rattle.model.proofs.Trace.{slip_answered, slips_there, collects_over, ended_valued, opening_stays}
 use Rattle.model.proofs.Stages.{in_stage}
 use Rattle.model.proofs.Ways.{not_some}
 

@@ -1,5 +1,5 @@
 -- What the calls of a hall answer, the hall that they leave, and what they have sealed.
-use Rattle.std.specs.Prelude.{ℕ, Bool, not, List, ◌∷◌, Some, None, Option, nat_lt, refl}
+use Rattle.std.specs.Prelude.{ℕ, Bool, not, List, ◌∷◌, None, Option, nat_lt, refl}
 use Rattle.refusals.specs.Checks.{Check, checked}
 use Rattle.refusals.specs.declared.Layer.TheVariants.{Hall as InHall}
 use Rattle.wire.specs.declared.pair.Pair.{Pair}

@@ -1,5 +1,5 @@
 -- Begin: a client starts to read, or to write a value.
-use Rattle.std.specs.Prelude.{ℕ, ◌+◌, Bool, true, false, not, ◌||◌, List, [], ◌∷◌, length, is_some, Some, None, Ok, Err, Option, Result, refl}
+use Rattle.std.specs.Prelude.{ℕ, ◌+◌, Bool, true, false, not, ◌||◌, [], ◌∷◌, length, is_some, Some, None, Ok, Err, Option, Result, refl}
 use Rattle.refusals.specs.Checks.{checked}
 use Rattle.refusals.specs.declared.Layer.TheVariants.{Hall as InHall, Client as InClient}
 use Rattle.kinds.specs.declared.word.Word.{Word}

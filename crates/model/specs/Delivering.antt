@@ -1,5 +1,5 @@
 -- Deliver: an entry of the post is handed to a party, which makes its step.
-use Rattle.std.specs.Prelude.{ℕ, ◌+◌, Bool, true, false, if◌then◌else◌, not, ◌&&◌, ◌||◌, List, [], ◌∷◌, length, is_none, Some, None, Ok, Err, Option, Result, ◌==◌, nat_le, nat_lt, slice_index_or, slice_set, refl}
+use Rattle.std.specs.Prelude.{ℕ, ◌+◌, Bool, true, false, if◌then◌else◌, not, ◌&&◌, ◌||◌, [], ◌∷◌, length, is_none, Some, None, Ok, Err, Option, Result, ◌==◌, nat_le, nat_lt, slice_index_or, slice_set, refl}
 use Rattle.refusals.specs.Checks.{checked}
 use Rattle.refusals.specs.declared.Layer.TheVariants.{Hall as InHall}
 use Rattle.wire.specs.declared.entry.Entry.{Entry}
@@ -10,7 +10,6 @@ use Rattle.wire.specs.declared.party.Party.{Party}
 use Rattle.wire.specs.declared.party.Party.TheVariants.{Source as TheSource, Client as AClient, Replica as AReplica}
 use Rattle.wire.specs.Entries.{kind_of}
 use Rattle.wire.specs.Parties.{Client, Replica}
-use Rattle.stores.specs.declared.card.Card.{Card}
 use Rattle.stores.specs.Saved.{Shelf}
 use Rattle.clients.specs.declared.fault.ClientFault.{ClientFault}
 use Rattle.clients.specs.declared.line.Line.{Line}

@@ -1,5 +1,5 @@
 -- Issue: the source seals and posts the next configuration.
-use Rattle.std.specs.Prelude.{ℕ, ◌+◌, ◌*◌, ◌/◌, ◌^◌, Bool, not, ◌&&◌, ◌||◌, List, [], ◌∷◌, Ok, Err, Option, Result, ◌==◌, bit_and, count_ones, nat_le, refl}
+use Rattle.std.specs.Prelude.{ℕ, ◌+◌, ◌*◌, ◌/◌, ◌^◌, Bool, not, ◌&&◌, ◌||◌, [], ◌∷◌, Ok, Err, Option, Result, ◌==◌, bit_and, count_ones, nat_le, refl}
 use Rattle.refusals.specs.declared.Layer.TheVariants.{Hall as InHall}
 use Rattle.wire.specs.declared.pair.Configuration.{Configuration}
 use Rattle.wire.specs.declared.pair.Seal.{Seal}

@@ -1,5 +1,5 @@
 -- Meddle: any entry is posted in the name of a marked replica.
-use Rattle.std.specs.Prelude.{ℕ, Bool, false, not, List, [], ◌∷◌, is_none, Some, Option, refl}
+use Rattle.std.specs.Prelude.{ℕ, Bool, false, not, [], ◌∷◌, is_none, Some, Option, refl}
 use Rattle.refusals.specs.declared.Layer.TheVariants.{Hall as InHall}
 use Rattle.wire.specs.declared.entry.Entry.{Entry}
 use Rattle.wire.specs.declared.party.Party.{Party}

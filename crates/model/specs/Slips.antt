@@ -1,5 +1,5 @@
 -- Call off, collect, lodge and redeem: what becomes of an operation's slip.
-use Rattle.std.specs.Prelude.{ℕ, Bool, not, ◌&&◌, List, [], ◌∷◌, is_none, Some, None, Option, ◌==◌, nat_le, refl}
+use Rattle.std.specs.Prelude.{ℕ, Bool, not, ◌&&◌, [], ◌∷◌, is_none, Some, None, Option, ◌==◌, nat_le, refl}
 use Rattle.refusals.specs.declared.Layer.TheVariants.{Client as InClient, Kind as InKind}
 use Rattle.kinds.specs.declared.fault.KindFault.TheVariants.{NoValue}
 use Rattle.wire.specs.declared.pair.Pair.{Pair}
