@@ -1,5 +1,5 @@
 -- A call that seals nothing takes a world to another, whatever seal would be given. Assumes nothing.
-use Rattle.std.proofs.Common.{◌≡◌, None, ◌∙◌}
+use Rattle.std.proofs.Common.{◌≡◌, None}
 use Rattle.wire.specs.declared.pair.Seal.{Seal}
 use Rattle.sealers.proofs.Sealing.{nothing_sealed}
 use Rattle.model.specs.Halls.{World, no_seal, desk_of}

@@ -1,5 +1,5 @@
 -- The seat changes, or the slip is handed back and all is as it was.
-use Rattle.std.proofs.Common.{rules, arith, refl}
+use Rattle.std.proofs.Common.{arith, refl}
 use Rattle.std.proofs.lemmas.Grind.{common_steps}
 use Rattle.register.proofs.Quiet.{quiet}
 use Rattle.register.proofs.hall.Hall.collect.Goals as goal

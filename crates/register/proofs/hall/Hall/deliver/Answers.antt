@@ -1,7 +1,6 @@
 -- The step of the party is the call's, once its tests have passed; else all is as it was.
 use Rattle.std.proofs.Common.{rules, ◌≡◌, ◌∙◌, ap, sym, refl}
 use Rattle.wire.specs.declared.entry.Entry.{Entry}
-use Rattle.wire.specs.declared.party.Party.{Party}
 use Rattle.wire.specs.declared.party.Party.TheVariants.{Client as AClient, Replica as AReplica}
 use Rattle.model.specs.Delivering.{entry_of, stepped}
 use Rattle.register.specs.Worlds.{bare, hall_of, world, done_or, stepped_or}

@@ -2,7 +2,7 @@ use Rattle.std.proofs.Common.{rules, ◌≡◌, ◌∙◌, ap, subst, Ok, Err}
 use Rattle.halls.specs.declared.seat.Seat.{Seat}
 use Rattle.clients.specs.Steps.{Stepped, client_stepped}
 use Rattle.model.specs.Halls.{desk_of}
-use Rattle.model.specs.Answers.{Outcome, done}
+use Rattle.model.specs.Answers.{done}
 use Rattle.model.specs.Delivering.{client_moves}
 use Rattle.register.specs.Worlds.{hall_of, world}
 use Rattle.register.proofs.Refusals.{client_refused, client_accepted}
