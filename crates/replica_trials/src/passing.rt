@@ -24,6 +24,18 @@ fn parties_have_numbers(rt: HostRuntime) -> Result<(), Fail> {
 }
 
 #[test]
+fn replicas_and_clients_are_shown_by_their_names(rt: HostRuntime) -> Result<(), Fail> {
+    let replica = Replica::try_from(3)?;
+    let client = Client::try_from(3)?;
+    let shown = format!(in rt.alloc(); "{replica:?}, {client:?}")?;
+    assert_eq!(rt;
+        shown.as_str(),
+        "Replica { number: 3 }, Client { number: 3 }"
+    );
+    Ok(())
+}
+
+#[test]
 fn sets_hold_what_was_put_in(rt: HostRuntime) -> Result<(), Fail> {
     let first = Replica::try_from(0)?;
     let last = Replica::try_from(63)?;

@@ -2,10 +2,11 @@
 ghost use Rattle.std.specs.Prelude.{◌≡◌, true, ◌&&◌, nat_le};
 
 mod numbers;
+mod shown;
 mod singles;
 
 // A party of one sort by its number, FIRST to LAST: no other can be made.
-#[derive(Clone, Copy, PartialEq, Eq, Debug)]
+#[derive(Clone, Copy, PartialEq, Eq)]
 pub struct Numbered<const FIRST: u8, const LAST: u8> {
     number: u8,
     ghost ok: { (nat_le FIRST number && nat_le number LAST) ≡ true },
