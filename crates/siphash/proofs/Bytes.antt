@@ -1,6 +1,6 @@
 -- The number that bytes write, byte by byte and part by part. Assumes nothing.
-use Rattle.std.proofs.Common.{◌≡◌, ℕ, zero, suc, ◌+◌, ◌-◌, ◌*◌, ◌/◌, ◌%◌, ◌^◌, ◌<◌, ◌≤◌, List, [], ◌∷◌, ◌++◌, length, get_or, drop, replicate, sym, refl, ap, ◌∙◌, subst, arith}
-use Rattle.std.proofs.lemmas.List.{drop_all, get_or-drop, drop-drop}
+use Rattle.std.proofs.Common.{◌≡◌, ℕ, zero, suc, ◌+◌, ◌-◌, ◌*◌, ◌/◌, ◌%◌, ◌^◌, ◌<◌, ◌≤◌, List, [], ◌∷◌, ◌++◌, length, get_or, take, drop, replicate, sym, refl, ap, ◌∙◌, arith}
+use Rattle.std.proofs.lemmas.List.{drop_all, get_or-take, get_or-drop, drop-drop}
 use Rattle.std.proofs.lemmas.Nat.{shr-shr}
 use Rattle.siphash.specs.Words.{little, behind}
 
@@ -16,22 +16,39 @@ past : (n : ℕ) (xs : List ℕ) → length xs ≤ n → little (drop n xs) ≡ 
 unfolding little
 past n xs h = ap little (drop_all n xs h)
 
+pub little_0 : (xs : List ℕ) → length xs ≡ 0 → little xs ≡ 0
+little_0 xs e = past 0 xs (omega arith)
+
+pub little_1 : (xs : List ℕ) → length xs ≡ 1 → little xs ≡ get_or xs 0 0
+little_1 xs e = omega (arith, at xs 0, past 1 xs (omega arith))
+
+pub little_2 : (xs : List ℕ) → length xs ≡ 2 → little xs ≡ get_or xs 0 0 + get_or xs 1 0 * 256
+little_2 xs e = omega (arith, at xs 0, at xs 1, past 2 xs (omega arith))
+
+pub little_3 : (xs : List ℕ) → length xs ≡ 3 → little xs ≡ get_or xs 0 0 + get_or xs 1 0 * 256 + get_or xs 2 0 * 65536
+little_3 xs e = omega (arith, at xs 0, at xs 1, at xs 2, past 3 xs (omega arith))
+
+-- four bytes, and the others behind them
+pub little_four : (xs front back : List ℕ) (n : ℕ) → front ≡ take 4 xs → back ≡ drop 4 xs → n ≡ get_or front 0 0 + get_or front 1 0 * 256 + get_or front 2 0 * 65536 + get_or front 3 0 * 16777216 → little xs ≡ n + 4294967296 * little back
+little_four xs front back n e b is =
+    omega (
+      arith,
+      at xs 0,
+      at xs 1,
+      at xs 2,
+      at xs 3,
+      ap little b,
+      byte 0 (omega arith),
+      byte 1 (omega arith),
+      byte 2 (omega arith),
+      byte 3 (omega arith),
+    )
+  where
+    byte : (k : ℕ) → k < 4 → get_or front k 0 ≡ get_or xs k 0
+    byte k h = ap (λ l. get_or l k 0) e ∙ get_or-take 4 xs k 0 h
+
 pub little_8 : (xs : List ℕ) → length xs ≤ 8 → little xs ≡ get_or xs 0 0 + get_or xs 1 0 * 256 + get_or xs 2 0 * 65536 + get_or xs 3 0 * 16777216 + get_or xs 4 0 * 4294967296 + get_or xs 5 0 * 1099511627776 + get_or xs 6 0 * 281474976710656 + get_or xs 7 0 * 72057594037927936
 little_8 xs h = omega (arith, at xs 0, at xs 1, at xs 2, at xs 3, at xs 4, at xs 5, at xs 6, at xs 7, past 8 xs h)
-
--- fewer than eight bytes write a number below 2 ^ 56
-pub little_small : (xs : List ℕ) → length xs < 8 → ((i : ℕ) → get_or xs i 0 < 256) → little xs < 2 ^ 56
-little_small xs h fit = omega (arith, at xs 0, at xs 1, at xs 2, at xs 3, at xs 4, at xs 5, at xs 6, past 7 xs (omega arith), fit 0, fit 1, fit 2, fit 3, fit 4, fit 5, fit 6)
-
--- the end of bytes is bytes
-pub end_fits : (front end bs : List ℕ) → bs ≡ front ++ end → ((i : ℕ) → get_or bs i 0 < 256) → (i : ℕ) → get_or end i 0 < 256
-end_fits [] end bs is fits i = subst (λ l. get_or l i 0 < 256) is (fits i)
-end_fits (x ∷ front) end bs is fits i = end_fits front end (front ++ end) refl (λ j. subst (λ l. get_or l (suc j) 0 < 256) is (fits (suc j))) i
-
--- nothing stands before it
-pub all_taken : (front end bs : List ℕ) → bs ≡ front ++ end → length front ≡ 0 → end ≡ bs
-all_taken [] end bs is none = sym is
-all_taken (x ∷ front) end bs is none = absurd (omega (arith, none))
 
 all_zeros : (n k : ℕ) → little (drop n (replicate k 0)) ≡ 0
 unfolding little
